@@ -4,9 +4,10 @@ use crate::explainer::Explainer;
 use crate::place_text::{write_late, write_missing, write_segment};
 use crate::session::Form;
 use crate::words::Text;
-use crate::wrapper::Wrapped;
+use crate::wrapper::{begins_head, is_message};
 use dlms_capture::{Ends, Order, Segment, Stamp, Transport};
 use dlms_dissect::Side;
+use dlms_frame::Deframer;
 use dlms_security::Opener;
 use std::alloc::{AllocError, Allocator};
 
@@ -40,7 +41,6 @@ pub struct Connection<A: Allocator, O> {
     down: Order<A>,
     carries: Carries,
     frames: Explainer<A, O>,
-    wrapped: Wrapped<A, O>,
     /// The octets that are next, and not told yet.
     fresh: Vec<u8, A>,
     /// How many segments were of other traffic, and are not counted yet.
@@ -65,23 +65,27 @@ fn is_from_meter(segment: Segment<'_>) -> bool {
     }
 }
 
-/// Whether a head of the wrapper begins so: its version is 1, and no port is 0, which is no station's (IEC 62056-47, reserved ports).
-fn begins_head(octets: &[u8]) -> bool {
-    match octets {
-        [0, 1, 0, 0, ..] => false,
-        [0, 1, _, _, 0, 0, ..] => false,
-        [0, 1, ..] => true,
-        _ => false,
-    }
-}
-
 /// The content of a connection with these first octets.
 fn content_of(ends: Ends, octets: &[u8]) -> Carries {
     match octets {
         [FLAG, ..] => Carries::Frames,
         _ if begins_head(octets) => Carries::Wrapped,
         _ if ends.to.port == PORT => Carries::Nothing,
-        _ => Carries::Other,
+        _ => later_content_of(octets),
+    }
+}
+
+/// The content of a connection of other traffic so far, by the octets of a segment: one of which the capture does not have the
+/// beginning is known by the first segment with a frame whose checks are right, or with messages of the wrapper alone.
+fn later_content_of(octets: &[u8]) -> Carries {
+    let mut deframer = Deframer::new();
+    let _taken = deframer.feed(octets);
+    if deframer.frame().is_some() {
+        Carries::Frames
+    } else if is_message(octets) {
+        Carries::Wrapped
+    } else {
+        Carries::Other
     }
 }
 
@@ -102,7 +106,6 @@ impl<A: Allocator + Copy, O: Opener> Connection<A, O> {
             down: Order::new(alloc),
             carries: Carries::Nothing,
             frames: Explainer::with_opener(alloc, form, opener),
-            wrapped: Wrapped::new(alloc, form, opener),
             fresh: Vec::new(alloc),
             others: 0,
         }
@@ -163,8 +166,10 @@ impl<A: Allocator + Copy, O: Opener> Connection<A, O> {
 
     /// Whether the connection's content is explained, judged also by the octets that are next.
     fn is_told(&mut self) -> bool {
-        if matches!(self.carries, Carries::Nothing) {
-            self.carries = content_of(self.ends, self.fresh.as_slice());
+        match self.carries {
+            Carries::Nothing => self.carries = content_of(self.ends, self.fresh.as_slice()),
+            Carries::Other => self.carries = later_content_of(self.fresh.as_slice()),
+            Carries::Frames | Carries::Wrapped => {}
         }
         !matches!(self.carries, Carries::Other)
     }
@@ -177,7 +182,7 @@ impl<A: Allocator + Copy, O: Opener> Connection<A, O> {
             text.refuse();
         }
         match self.carries {
-            Carries::Wrapped => self.wrapped.stamp(told.as_str(), text),
+            Carries::Wrapped => self.frames.wrapped.stamp(told.as_str(), text),
             _ => self.frames.stamp(told.as_str(), text),
         }
     }
@@ -188,7 +193,10 @@ impl<A: Allocator + Copy, O: Opener> Connection<A, O> {
             Carries::Frames | Carries::Nothing => {
                 self.frames.take(Some(side), self.fresh.as_slice(), text);
             }
-            Carries::Wrapped => self.wrapped.octets(side, self.fresh.as_slice(), text),
+            Carries::Wrapped => self
+                .frames
+                .wrapped
+                .octets(Some(side), self.fresh.as_slice(), text),
             Carries::Other => {}
         }
     }
@@ -375,7 +383,6 @@ impl<A: Allocator + Copy, O: Opener> Connection<A, O> {
         self.tell_rest(Side::Meter, text);
         if !matches!(self.carries, Carries::Other) {
             self.frames.close(text);
-            self.wrapped.end(text);
         }
         self.count_others()
     }

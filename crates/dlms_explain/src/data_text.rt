@@ -8,6 +8,9 @@ use dlms_dissect::{Part, Veiled, is_date_time};
 use dlms_names::code_name;
 use std::alloc::{AllocError, Allocator};
 
+/// The level of the deepest lines that are not those of a part.
+const DEEPEST: u8 = 2;
+
 /// How many levels of arrays and structures a value has at most.
 const MOST_LEVELS: u8 = 8;
 
@@ -136,6 +139,18 @@ fn signed_of<A: Allocator>(value: &Data<A>) -> Option<(&'static str, i64)> {
     }
 }
 
+/// Whether a value that is a number is below 0, and the number without its sign; nothing for another value.
+pub fn number_in<A: Allocator>(value: &Data<A>) -> Option<(bool, u64)> {
+    if let Data::Enum(_) = value {
+        return None;
+    }
+    if let Some((_, number)) = unsigned_of(value) {
+        return Some((false, number));
+    }
+    let (_, number) = signed_of(value)?;
+    Some((number < 0, number.unsigned_abs()))
+}
+
 /// The words of a value without inner values; nothing for the others.
 fn words_of<A: Allocator>(value: &Data<A>) -> &'static str {
     match value {
@@ -220,6 +235,9 @@ fn write_items<A: Allocator>(
 /// The lines of a value with this many levels.
 #[cycle(tree)]
 fn write_tree<A: Allocator>(text: &mut Text<A>, depth: u8, room: u8, value: &Data<A>) {
+    if depth > DEEPEST && !text.has_parts {
+        return;
+    }
     match value {
         Data::Array(items) => write_items(text, depth, room, "array of ", items.as_slice()),
         Data::Structure(items) => write_items(text, depth, room, "structure of ", items.as_slice()),
@@ -291,6 +309,9 @@ fn write_veiled_tree<A: Allocator>(
     room: u8,
     veiled: &Veiled<'_, A>,
 ) {
+    if depth > DEEPEST && !text.has_parts {
+        return;
+    }
     match veiled.part() {
         Part::Array(count) => write_veiled_items(text, depth, room, "array of ", count, veiled),
         Part::Structure(count) => {

@@ -2,6 +2,8 @@
 
 ghost use Rattle.std.specs.Prelude.{◌<◌, IfSome};
 
+use std::alloc::{AllocError, Allocator};
+
 /// A word of hexadecimal digits: the number of its digits, and its octets in the line with `0x` or `x` before it, or `h` after it.
 #[derive(Clone, Copy)]
 pub struct Group {
@@ -213,6 +215,20 @@ pub fn next_pair(run: &[u8]) -> Option<(u8, &[u8])> {
         }
     }
     None
+}
+
+/// The octets of a run of pairs.
+pub fn octets_of<A: Allocator>(alloc: A, run: &[u8]) -> Result<Vec<u8, A>, AllocError> {
+    let mut octets = Vec::new(alloc);
+    let mut rest = run;
+    for _ in 0..run.len() {
+        let Some((octet, behind)) = next_pair(rest) else {
+            break;
+        };
+        octets.push(octet)?;
+        rest = behind;
+    }
+    Ok(octets)
 }
 
 /// The value of a hexadecimal digit.

@@ -10,7 +10,7 @@ use dlms_frame::{Address, Client};
 use std::alloc::Allocator;
 
 /// The sign of a side at the front of a line, as in a transcript; `-` if it is not known.
-fn sign(side: Option<Side>) -> &'static str {
+pub fn sign(side: Option<Side>) -> &'static str {
     match side {
         Some(Side::Client) => "> ",
         Some(Side::Meter) => "< ",

@@ -228,18 +228,23 @@ pub fn write_json<A: Allocator, O>(
     end_object(text, beside);
 }
 
-/// An APDU in the wrapper: its time, the client's port and the meter's, and its full explanation.
-pub fn write_json_wrapped<A: Allocator, O>(
+/// An APDU in no frame: its time, the client's port and the meter's if it is in the wrapper, and its full explanation.
+pub fn write_json_unframed<A: Allocator, O>(
     text: &mut Text<A>,
     view: &View<A, O>,
-    side: Side,
-    ports: (u16, u16),
+    side: Option<Side>,
+    ports: Option<(u16, u16)>,
     beside: &[u8],
 ) {
-    begin_object(text, view.stamp.as_str(), Some(side));
-    write_number(text, ",\"client\":", u64::from(ports.0));
-    write_number(text, ",\"meter\":", u64::from(ports.1));
-    write_string(text, ",\"kind\":", "wrapper");
+    begin_object(text, view.stamp.as_str(), side);
+    match ports {
+        Some((client, meter)) => {
+            write_number(text, ",\"client\":", u64::from(client));
+            write_number(text, ",\"meter\":", u64::from(meter));
+            write_string(text, ",\"kind\":", "wrapper");
+        }
+        None => write_string(text, ",\"kind\":", "apdu"),
+    }
     write_rest(text, &view.full, true);
     end_object(text, beside);
 }

@@ -3,7 +3,9 @@
 
 mod association_text;
 mod captured;
+mod color;
 mod connection;
+mod content;
 mod data_text;
 mod date_text;
 mod digits;
@@ -23,12 +25,15 @@ mod place_text;
 mod service_text;
 mod session;
 mod short;
+mod units;
 mod words;
 mod wrapper;
 
+pub use color::Painted;
+pub use content::write_apdu;
 pub use data_text::write_value;
 pub use dlms_dissect::Side;
-pub use explainer::{Explainer, write_apdu};
+pub use explainer::Explainer;
 pub use fault::ExplainFault;
 pub use layout::Layout;
 pub use names_text::write_code;

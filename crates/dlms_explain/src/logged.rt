@@ -257,13 +257,47 @@ fn statement_of<'a>(line: &[u8], words: &'a [u8]) -> &'a [u8] {
     }
 }
 
-/// Whether this run of pairs in a line is octets that are to be read: it begins with a frame's flag, or the line says whose octets
-/// follow, and they end it; or there is nothing else in the line.
-fn is_read(run: &[u8], digits: usize, is_marked: bool, front: &[u8], behind: &[u8]) -> bool {
-    let is_flag = matches!(next_pair(run), Some((FLAG, _)));
+/// Whether a line is a tag or a comment of XML.
+pub fn is_xml(line: &[u8]) -> bool {
+    match line.trim_ascii() {
+        [b'<', first, .., b'>'] => {
+            first.is_ascii_alphabetic() || matches!(*first, b'/' | b'!' | b'?')
+        }
+        _ => false,
+    }
+}
+
+/// Whether this run of pairs in a line is octets that are to be read: it begins with a frame's flag; or, but not in XML, the line
+/// says whose octets follow, and they end it, or there is nothing else in the line.
+fn is_read(line: &[u8], place: Place, is_marked: bool, front: &[u8], behind: &[u8]) -> bool {
+    let run = line.get(place.from..place.to).unwrap_or(&[]);
+    let is_long = place.digits >= LEAST_HIDDEN;
     let is_end = !has_word(behind);
     let is_alone = is_end && !has_word(front);
-    digits >= LEAST_HIDDEN && (is_flag || is_marked && is_end) || is_alone
+    is_long && matches!(next_pair(run), Some((FLAG, _)))
+        || !is_xml(line) && (is_long && is_marked && is_end || is_alone)
+}
+
+/// The octets of a line that names the direction, then a time, then its octets, as in `TX: 13:01:42 7E A0`.
+pub fn timed_of(line: &[u8]) -> Option<Logged<'_>> {
+    let (word, rest) = match line.trim_ascii_start() {
+        [a, b, b':', rest @ ..] => ([*a, *b], rest),
+        _ => return None,
+    };
+    let side = side_of_word(&word)?;
+    let rest = rest.trim_ascii_start();
+    let len = stamp_len(rest);
+    let (words, behind) = (rest.get(..len)?, rest.get(len..)?);
+    let digits = behind.trim_ascii();
+    let run = run_of(Between::Separators, digits)?;
+    if len == 0 || !run.is_pairs || run.len != digits.len() {
+        return None;
+    }
+    Some(Logged {
+        words,
+        side: Some(side),
+        run: digits,
+    })
 }
 
 /// The octets of a line of another program's log, if it has some that are to be read.
@@ -277,7 +311,7 @@ pub fn logged_of(line: &[u8]) -> Option<Logged<'_>> {
         Some(mark) => Some(mark.side),
         None => last_word(behind).map(|mark| mark.side),
     };
-    if !place.is_pairs || !is_read(run, place.digits, side.is_some(), front, behind) {
+    if !place.is_pairs || !is_read(line, place, side.is_some(), front, behind) {
         return None;
     }
     let words = match mark {

@@ -1,6 +1,7 @@
 //! Ciphered APDUs, opened by keys, and explained below their own lines. Without keys nothing is said here.
 
 use crate::association_text::{write_initiate_request, write_initiate_response};
+use crate::units::Units;
 use crate::words::{Text, Verdict, line};
 use arrayvec::ArrayVec;
 use dlms_acse::{Initiate, Verdict as Granted, read_aare, read_aarq};
@@ -25,13 +26,15 @@ const INITIATE_RESPONSE: u8 = 0x08;
 /// The most octets of an initiate request or response that is read: one with a dedicated key has 31.
 const MOST_INITIATE: usize = 64;
 
-/// What opens the ciphered APDUs, and what the last association has said of its ends. It has no `Debug` form, so that no key is
-/// printed by mistake.
+/// What opens the ciphered APDUs, what the last association has said of its ends, and the scalers and units of the meter's objects.
+/// It has no `Debug` form, so that no key is printed by mistake.
 #[derive(Drop)]
 pub struct Opening<O> {
     opener: O,
     /// A frame's octets are shown beside it, up to the first that is reported by its length or not at all.
     pub hex: bool,
+    /// The scalers and units that were read from the meter.
+    pub units: Units,
     parties: Option<Parties>,
     client: Option<[u8; 8]>,
     meter: Option<[u8; 8]>,
@@ -64,6 +67,7 @@ impl<O: Opener> Opening<O> {
         Opening {
             opener,
             hex,
+            units: Units::new(),
             parties: None,
             client: None,
             meter: None,
@@ -78,14 +82,22 @@ impl<O: Opener> Opening<O> {
         self.dedicated_key = None;
     }
 
+    /// Another meter is asked: no scaler and no unit is known.
+    pub fn forget_units(&mut self) {
+        self.units = Units::new();
+    }
+
     /// The next APDU is one of these ends.
     pub fn follow(&mut self, parties: Parties) {
-        let is_same = match self.parties {
-            Some(last) => last.are_same(parties),
-            None => false,
+        let (is_same, is_same_meter) = match self.parties {
+            Some(last) => (last.are_same(parties), last.meter == parties.meter),
+            None => (false, false),
         };
         if !is_same {
             self.forget();
+        }
+        if !is_same_meter {
+            self.forget_units();
         }
         self.parties = Some(parties);
     }

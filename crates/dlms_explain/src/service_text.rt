@@ -2,6 +2,7 @@
 
 use crate::data_text::{write_inline, write_levels, write_veiled};
 use crate::names_text::write_name;
+use crate::units::ScalerUnit;
 use crate::words::{
     Text, begin, end, line, name_and_number, named_line, number, number_line, signed_number,
 };
@@ -187,26 +188,37 @@ fn write_content<A: Allocator>(text: &mut Text<A>, content: &Content<'_, A>) {
 }
 
 /// Whether this attribute is a scaler and a unit.
-fn is_scaler_unit(named_one: Option<Named>) -> bool {
+pub fn is_scaler_unit(named_one: Option<Named>) -> bool {
     match named_one {
         Some(named_one) => !named_one.method && member_name(named_one) == Some("scaler_unit"),
         None => false,
     }
 }
 
-/// The line of a scaler and a unit, if the value is one.
-fn write_scaler_unit<A: Allocator>(text: &mut Text<A>, named_one: Option<Named>, value: &Data<A>) {
+/// The scaler and the unit that a value consists of, if it does.
+pub fn scaler_unit_in<A: Allocator>(value: &Data<A>) -> Option<ScalerUnit> {
     if let Data::Structure(items) = value
         && let [Data::Integer(scaler), Data::Enum(unit)] = items.as_slice()
+    {
+        return Some(ScalerUnit {
+            scaler: *scaler,
+            unit: *unit,
+        });
+    }
+    None
+}
+
+/// The line of a scaler and a unit, if the value is one.
+fn write_scaler_unit<A: Allocator>(text: &mut Text<A>, named_one: Option<Named>, value: &Data<A>) {
+    if let Some(ScalerUnit { scaler, unit }) = scaler_unit_in(value)
         && is_scaler_unit(named_one)
     {
         begin(text, 3);
         text.push("times 10^");
-        signed_number(text, i64::from(*scaler));
+        signed_number(text, i64::from(scaler));
         text.push(", unit ");
-        name_and_number(text, unit_name(*unit), "number", u64::from(*unit));
+        name_and_number(text, unit_name(unit), "number", u64::from(unit));
         end(text);
-        return;
     }
 }
 

@@ -23,6 +23,17 @@ const ROOM: usize = 4096;
 /// The number of octets by which a capture is distinguished from lines.
 const FRONT: usize = 4;
 
+/// The octet that begins the sequences of a terminal (ECMA-48, ESC), as logs have them too.
+const ESCAPE: u8 = 0x1b;
+
+/// Whether an input is octets and no lines: its first ones begin a frame or an association's APDU, or one of them is in no text.
+fn are_octets(front: &[u8]) -> bool {
+    matches!(
+        front,
+        [0x7e, 0xa0..=0xaf, ..] | [0x60..=0x63, _, 0x80..=0xff, ..]
+    ) || front.iter().any(|octet| *octet < b' ' && !octet.is_ascii_whitespace() && *octet != ESCAPE)
+}
+
 /// Shown for a line that is too long.
 const TOO_LONG: &str = "(a line of more than 65536 octets)";
 
@@ -239,7 +250,31 @@ fn tell_lines<A: Allocator + Copy, O: Opener, R: Read, W: Write>(
     write_text(&mut session.text, output)
 }
 
-/// Explains lines, whose first octets are already in the buffer.
+/// Explains octets that are in no lines, of which the first ones are already in the buffer.
+fn tell_octets<A: Allocator + Copy, O: Opener, R: Read, W: Write>(
+    session: &mut Session<A, O>,
+    room: &mut [u8; ROOM],
+    front: usize,
+    input: &mut R,
+    output: &mut W,
+) -> Result<(), ExplainFault>
+    requires { front ≤ length room.old }
+{
+    let mut count = read_some(input, &mut room[front..])?.saturating_add(front);
+    for _ in 0..u64::MAX {
+        let octets = room.get(..count).unwrap_or(&[]);
+        session.explainer.take_line(None, octets, &mut session.text);
+        write_text(&mut session.text, output)?;
+        count = read_some(input, room)?;
+        if count == 0 {
+            break;
+        }
+    }
+    session.end();
+    write_text(&mut session.text, output)
+}
+
+/// Explains lines or octets, of which the first ones are already in the buffer.
 #[inline(never)]
 fn explain_lines<A: Allocator + Copy, O: Opener, R: Read, W: Write>(
     alloc: A,
@@ -253,11 +288,14 @@ fn explain_lines<A: Allocator + Copy, O: Opener, R: Read, W: Write>(
     requires { front ≤ length room.old }
 {
     let mut session = Session::new(alloc, form, opener);
+    if are_octets(room[..front].get(..FRONT).unwrap_or(&[])) {
+        return tell_octets(&mut session, room, front, input, output);
+    }
     tell_lines(&mut session, room, front, input, output)
 }
 
-/// Explains the input: a capture of a network's traffic (pcap or pcapng, by its first octets), or lines, those of a transcript or
-/// of another log, or pairs of hexadecimal digits. The explanation of a line is written before more input is read than the piece
+/// Explains the input: a capture of a network's traffic (pcap or pcapng, by its first octets), octets as they are (by these too), or
+/// lines, those of a transcript or of another log, or pairs of hexadecimal digits. The explanation of a line is written before more input is read than the piece
 /// that contains its end, and at the end of the input that of its rest. A line may have any length: one of more than 65,536 octets
 /// is only reported to be too long.
 ///

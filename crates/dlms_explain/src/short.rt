@@ -3,7 +3,7 @@
 ghost use Rattle.std.specs.Prelude.{◌≡◌};
 
 use crate::frame_text::write_frame;
-use crate::json::{write_json, write_json_wrapped};
+use crate::json::{write_json, write_json_unframed};
 use crate::layout::Layout;
 use crate::opening::Opening;
 use crate::session::Form;
@@ -28,6 +28,8 @@ pub struct View<A: Allocator, O> {
     pub full: Text<A>,
     /// What opens ciphered APDUs.
     pub opening: Opening<O>,
+    /// Whether a frame of a meter came.
+    pub has_answers: bool,
 }
 
 impl<A: Allocator + Copy, O: Opener> View<A, O> {
@@ -35,11 +37,14 @@ impl<A: Allocator + Copy, O: Opener> View<A, O> {
     pub fn new(alloc: A, form: Form, opener: O) -> Self
         ensures { result.form ≡ form }
     {
+        let mut full = Text::flat_if(form.layout.is_one_line(), String::new(alloc));
+        full.has_parts = !matches!(form.layout, Layout::Short);
         View {
             form,
             stamp: String::new(alloc),
-            full: Text::flat_if(form.layout.is_one_line(), String::new(alloc)),
+            full,
             opening: Opening::new(opener, form.hex),
+            has_answers: false,
         }
     }
 
@@ -52,12 +57,13 @@ impl<A: Allocator + Copy, O: Opener> View<A, O> {
     }
 }
 
+/// Blanks as many as the widest column has.
+const BLANKS: &str = "                                    ";
+
 /// Blanks up to the end of a column of this width that began at this place, one at least.
 fn fill<A: Allocator>(text: &mut Text<A>, from: usize, width: usize) {
     let len = text.len().saturating_sub(from);
-    for _ in 0..width.saturating_sub(len) {
-        text.push(" ");
-    }
+    text.push(BLANKS.get(..width.saturating_sub(len)).unwrap_or(BLANKS));
     text.push(" ");
 }
 
@@ -70,16 +76,24 @@ fn write_address<A: Allocator>(text: &mut Text<A>, address: Address) {
     }
 }
 
+/// The sign between the client and the meter.
+fn direction(side: Option<Side>) -> &'static str {
+    match side {
+        Some(Side::Client) => " > ",
+        Some(Side::Meter) => " < ",
+        None => " - ",
+    }
+}
+
 /// The column of the two ends, the client's first: `16 > 1` is to the meter, `16 < 1` from it.
 fn write_ends<A: Allocator>(text: &mut Text<A>, side: Option<Side>, heading: Heading) {
     let from = text.len();
-    let (client, sign, meter) = match side {
-        Some(Side::Client) => (heading.src, " > ", heading.dest),
-        Some(Side::Meter) => (heading.dest, " < ", heading.src),
-        None => (heading.src, " - ", heading.dest),
+    let (client, meter) = match side {
+        Some(Side::Meter) => (heading.dest, heading.src),
+        _ => (heading.src, heading.dest),
     };
     write_address(text, client);
-    text.push(sign);
+    text.push(direction(side));
     write_address(text, meter);
     fill(text, from, ENDS);
 }
@@ -96,16 +110,11 @@ fn write_control<A: Allocator>(text: &mut Text<A>, control: Control) {
     }
 }
 
-/// The number of blanks at the front of a line.
-fn depth(line: &str) -> usize {
-    line.len().saturating_sub(line.trim_start().len())
-}
-
 /// The words of a line up to the part that the column of the service leaves out.
 pub fn service(line: &str) -> &str {
-    match line.split_once(", invoke-id") {
-        Some((name, _)) => name,
-        None => line,
+    match line.split_once(',') {
+        Some((name, rest)) if rest.starts_with(" invoke-id") => name,
+        _ => line,
     }
 }
 
@@ -118,9 +127,39 @@ fn write_front<A: Allocator, O>(text: &mut Text<A>, view: &View<A, O>) {
     text.push(" ");
 }
 
-/// Whether a line in full is left out: how many segments an APDU came in, and which services the ends have.
-fn is_left_out(line: &str) -> bool {
-    line.ends_with(" segments joined") || line.trim_start().starts_with("conformance: ")
+/// The number of blanks in front of the deepest lines, but for those of a measure.
+const DEEPEST: usize = 4;
+
+/// Whether the words of a line in full, after this many blanks, are left out: parts of a value but its number with its scaler and its
+/// unit, or these alone; how many segments an APDU came in; and which services the ends have.
+fn is_left_out(words: &str, blanks: usize) -> bool {
+    match words.as_bytes() {
+        [b'=', ..] => false,
+        [b't', ..] if blanks > DEEPEST => !words.starts_with("times 10^"),
+        _ if blanks > DEEPEST => true,
+        [b'c', ..] => words.starts_with("conformance: "),
+        [.., b'd'] => words.ends_with(" segments joined"),
+        _ => false,
+    }
+}
+
+/// The first line, and the lines after it.
+fn next_line(lines: &str) -> (&str, &str) {
+    let len = lines
+        .as_bytes()
+        .iter()
+        .position(|octet| *octet == b'\n')
+        .unwrap_or(lines.len());
+    let behind = lines.get(len.saturating_add(1)..).unwrap_or("");
+    (lines.get(..len).unwrap_or(""), behind)
+}
+
+/// The number of blanks at the front of a line.
+fn blanks_len(line: &str) -> usize {
+    line.as_bytes()
+        .iter()
+        .position(|octet| *octet != b' ')
+        .unwrap_or(line.len())
 }
 
 /// The service and the lines below it in full, except for the parts of a value; of a ciphered APDU that was opened those of the APDU
@@ -140,11 +179,18 @@ fn write_rest<A: Allocator>(text: &mut Text<A>, full: &Text<A>) {
 fn write_lines<A: Allocator>(text: &mut Text<A>, full: &str) {
     let from = text.len();
     let mut count: u64 = 0;
-    for line in full.lines() {
-        if depth(line) > 4 || is_left_out(line) {
+    let mut rest = full;
+    for _ in 0..full.len() {
+        if rest.is_empty() {
+            break;
+        }
+        let (line, behind) = next_line(rest);
+        rest = behind;
+        let blanks = blanks_len(line);
+        let words = line.get(blanks..).unwrap_or("");
+        if is_left_out(words, blanks) {
             continue;
         }
-        let words = line.trim_start();
         match count {
             0 => text.push(service(words)),
             1 => {
@@ -152,7 +198,7 @@ fn write_lines<A: Allocator>(text: &mut Text<A>, full: &str) {
                 text.push(words);
             }
             _ => {
-                text.push("; ");
+                text.either(words.as_bytes().first() == Some(&b'='), " ", "; ");
                 text.push(words);
             }
         }
@@ -222,23 +268,31 @@ pub fn write_view<A: Allocator, O>(
     }
 }
 
-/// The line of an APDU in the wrapper: the time, the client's port and the meter's, and the service.
-pub fn write_wrapped<A: Allocator, O>(
+/// The line of an APDU in no frame: the time, the client's port and the meter's if it is in the wrapper, and the service.
+pub fn write_unframed<A: Allocator, O>(
     text: &mut Text<A>,
     view: &View<A, O>,
-    side: Side,
-    ports: (u16, u16),
+    side: Option<Side>,
+    ports: Option<(u16, u16)>,
     beside: Beside<'_>,
 ) {
     if view.form.layout.is_json() {
-        write_json_wrapped(text, view, side, ports, beside.octets);
+        write_json_unframed(text, view, side, ports, beside.octets);
         return;
     }
     write_front(text, view);
     let from = text.len();
-    number(text, u64::from(ports.0));
-    text.either(side == Side::Client, " > ", " < ");
-    number(text, u64::from(ports.1));
+    match ports {
+        Some((client, meter)) => {
+            number(text, u64::from(client));
+            text.push(direction(side));
+            number(text, u64::from(meter));
+        }
+        None => {
+            text.push("APDU");
+            text.push(direction(side));
+        }
+    }
     fill(text, from, ENDS);
     write_rest(text, &view.full);
     write_beside(text, beside);

@@ -28,6 +28,8 @@ pub struct Text<A: Allocator> {
     is_refused: bool,
     /// Lines are not indented by the APDU that they are inside.
     is_flat: bool,
+    /// Whether the lines of a value's parts are written: in one line they are left out.
+    pub has_parts: bool,
     /// How many levels all lines are deeper.
     depth: u8,
     /// Where the line of a verdict begins, and the verdict.
@@ -50,6 +52,7 @@ impl<A: Allocator> Text<A> {
             words,
             is_refused: false,
             is_flat,
+            has_parts: true,
             depth: 0,
             verdict: None,
         }

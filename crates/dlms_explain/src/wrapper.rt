@@ -1,14 +1,16 @@
-//! APDUs in the wrapper of IEC 62056-47: after a head of its version, the two ports and the length.
+//! APDUs that are in no frame: in the wrapper of IEC 62056-47, after a head of its version, the two ports and the length; or alone.
 
 ghost use Rattle.std.specs.Prelude.{◌≡◌};
 
-use crate::explainer::explain_apdu;
+use crate::content::explain_apdu;
+use crate::frame_text::sign;
 use crate::json::write_note;
 use crate::session::Form;
-use crate::short::{Beside, View, write_beside, write_wrapped};
+use crate::short::{Beside, View, write_beside, write_unframed};
 use crate::words::{Text, end, line, number};
 use byteorder::{BigEndian, ByteOrder};
-use dlms_dissect::{Services, Side};
+use dlms_dissect::{Apdu, Services, Side, behind_llc, is_counted, read_apdu};
+use dlms_names::apdu_name;
 use dlms_security::Opener;
 use std::alloc::Allocator;
 
@@ -18,6 +20,12 @@ const HEAD: usize = 8;
 /// The only version.
 const VERSION: u16 = 1;
 
+/// The port of a meter's management.
+const MANAGEMENT: u16 = 1;
+
+/// The fewest octets that are taken as an APDU, but for those of a release or an exception.
+const LEAST_APDU: usize = 5;
+
 /// The head of an APDU.
 #[derive(Clone, Copy)]
 struct Head {
@@ -25,6 +33,15 @@ struct Head {
     from: u16,
     to: u16,
     len: usize,
+}
+
+/// The octets of an APDU, with its head if it has one.
+#[derive(Clone, Copy)]
+struct Message<'a> {
+    side: Option<Side>,
+    head: Option<Head>,
+    apdu: &'a [u8],
+    whole: &'a [u8],
 }
 
 /// The requested object between two ports, and how it is reported.
@@ -38,11 +55,12 @@ struct Asked<A: Allocator, O> {
     view: View<A, O>,
 }
 
-/// Both directions of a connection, and the requested objects.
+/// Both directions of a connection, octets whose direction is not known, and the requested objects.
 #[derive(Drop)]
 pub struct Wrapped<A: Allocator, O> {
     client: Vec<u8, A>,
     meter: Vec<u8, A>,
+    bare: Vec<u8, A>,
     asked: Asked<A, O>,
 }
 
@@ -59,15 +77,112 @@ fn head_of(octets: &[u8]) -> Option<Head> {
     })
 }
 
+/// Whether a head of the wrapper begins so: its version is 1, and no port is 0, which is no station's (IEC 62056-47, reserved ports).
+pub fn begins_head(octets: &[u8]) -> bool {
+    match octets {
+        [0, 1, 0, 0, ..] => false,
+        [0, 1, _, _, 0, 0, ..] => false,
+        [0, 1, ..] => true,
+        _ => false,
+    }
+}
+
+/// Whether a head of the wrapper is here, and an APDU begins after it or is still to come.
+pub fn begins_message(octets: &[u8]) -> bool {
+    match octets.get(HEAD..) {
+        Some([tag, ..]) => begins_head(octets) && apdu_name(*tag).is_some(),
+        Some([]) => begins_head(octets),
+        None => false,
+    }
+}
+
+/// Whether octets are a message of the wrapper as a whole.
+pub fn is_message(octets: &[u8]) -> bool {
+    match head_of(octets) {
+        Some(head) => begins_message(octets) && head.len.saturating_add(HEAD) == octets.len(),
+        None => false,
+    }
+}
+
+/// Who sends an APDU that begins with this octet, if only one end does.
+fn side_of_tag(tag: u8) -> Option<Side> {
+    let name = apdu_name(tag)?;
+    if name.starts_with("general") {
+        None
+    } else if name.ends_with("request") && !name.contains("notification") {
+        Some(Side::Client)
+    } else {
+        Some(Side::Meter)
+    }
+}
+
+/// Who sends an APDU after this head.
+fn side_of(said: Option<Side>, head: Head, apdu: &[u8]) -> Option<Side> {
+    let by_port = match (head.from, head.to) {
+        (MANAGEMENT, _) => Some(Side::Meter),
+        (_, MANAGEMENT) => Some(Side::Client),
+        _ => None,
+    };
+    said.or(side_of_tag(apdu.first().copied().unwrap_or(0)))
+        .or(by_port)
+}
+
+/// Whether octets are an APDU as a whole.
+fn is_apdu<A: Allocator + Copy>(alloc: A, side: Option<Side>, octets: &[u8]) -> bool {
+    match octets {
+        [0x60 | 0x61, ..] => is_counted(octets),
+        [0x62 | 0x63 | 0xd8, ..] => !is_unreadable(alloc, side, octets),
+        [tag, ..] if octets.len() >= LEAST_APDU && apdu_name(*tag).is_some() => {
+            !is_unreadable(alloc, side, octets)
+        }
+        _ => false,
+    }
+}
+
+/// Whether no APDU has this form. Memory that is refused is none.
+fn is_unreadable<A: Allocator + Copy>(alloc: A, side: Option<Side>, octets: &[u8]) -> bool {
+    match read_apdu(alloc, side, octets) {
+        Ok(apdu) => {
+            let is_unreadable = matches!(&apdu, Apdu::Unreadable(_));
+            drop(apdu);
+            is_unreadable
+        }
+        Err(_) => true,
+    }
+}
+
+/// The message of octets that are an APDU alone, or one after the octets of the LLC.
+fn alone<A: Allocator + Copy>(alloc: A, said: Option<Side>, octets: &[u8]) -> Option<Message<'_>> {
+    let apdu = behind_llc(said, octets).unwrap_or(octets);
+    let side = said.or(side_of_tag(*apdu.first()?));
+    if !is_apdu(alloc, side, apdu) {
+        return None;
+    }
+    Some(Message {
+        side,
+        head: None,
+        apdu,
+        whole: apdu,
+    })
+}
+
 /// The words of a head, without the end of their line.
-fn write_head<A: Allocator>(text: &mut Text<A>, side: Side, head: Head) {
-    let is_client = side == Side::Client;
-    text.either(is_client, "> wrapper port ", "< wrapper port ");
-    number(text, u64::from(head.from));
-    text.push(" to ");
-    number(text, u64::from(head.to));
-    text.push("; length ");
-    number(text, head.len as u64);
+fn write_head<A: Allocator>(text: &mut Text<A>, message: Message<'_>) {
+    text.push(sign(message.side));
+    match message.head {
+        Some(head) => {
+            text.push("wrapper port ");
+            number(text, u64::from(head.from));
+            text.push(" to ");
+            number(text, u64::from(head.to));
+            text.push("; length ");
+            number(text, head.len as u64);
+        }
+        None => {
+            text.push("APDU; length ");
+            number(text, message.apdu.len() as u64);
+        }
+    }
 }
 
 /// Shown if there is no head.
@@ -80,17 +195,16 @@ const NOT_WHOLE: &str = "(the last APDU is not whole)";
 fn explain_view<A: Allocator + Copy, O: Opener>(
     view: &mut View<A, O>,
     alloc: A,
-    side: Side,
+    side: Option<Side>,
     services: &mut Services<A>,
     apdu: &[u8],
 ) -> usize {
-    let said = Some(side);
     view.full.clear();
     explain_apdu(
         &mut view.full,
         alloc,
         &mut view.opening,
-        said,
+        side,
         services,
         apdu,
     )
@@ -98,70 +212,79 @@ fn explain_view<A: Allocator + Copy, O: Opener>(
 
 impl<A: Allocator + Copy, O: Opener> Asked<A, O> {
     /// What was asked for between other ports is forgotten.
-    fn follow(&mut self, side: Side, head: Head) {
+    fn follow(&mut self, side: Option<Side>, head: Head) {
         let ports = match side {
-            Side::Client => (head.from, head.to),
-            Side::Meter => (head.to, head.from),
+            Some(Side::Meter) => (head.to, head.from),
+            _ => (head.from, head.to),
         };
         if self.ports != ports {
             self.services = Services::new(self.alloc, self.raw);
             self.view.opening.forget();
+            self.view.opening.forget_units();
             self.ports = ports;
         }
     }
 
-    /// Explains an APDU, after its head, put together in the requested form.
-    fn tell_view(&mut self, side: Side, head: Head, whole: &[u8], text: &mut Text<A>) {
-        let apdu = whole.get(HEAD..).unwrap_or(&[]);
+    /// Explains an APDU, put together in the requested form.
+    fn tell_view(&mut self, message: Message<'_>, text: &mut Text<A>) {
+        let Message {
+            side,
+            head,
+            apdu,
+            whole,
+        } = message;
         let hex = self.view.form.hex;
         let shown = explain_view(&mut self.view, self.alloc, side, &mut self.services, apdu);
         if self.view.full.check_memory().is_err() {
             text.refuse();
         }
+        let front = whole.len().saturating_sub(apdu.len());
         let beside = Beside {
             octets: if hex {
-                whole.get(..shown.saturating_add(HEAD)).unwrap_or(whole)
+                whole.get(..shown.saturating_add(front)).unwrap_or(whole)
             } else {
                 &[]
             },
             is_whole: shown >= apdu.len(),
         };
         if self.view.form.layout.is_one_line() {
-            write_wrapped(text, &self.view, side, self.ports, beside);
+            let ports = head.map(|_| self.ports);
+            write_unframed(text, &self.view, side, ports, beside);
             return;
         }
-        write_head(text, side, head);
+        write_head(text, message);
         write_beside(text, beside);
         end(text);
         text.push(self.view.full.as_str());
     }
 
-    /// Explains an APDU, which follows its head.
-    fn tell(&mut self, side: Side, head: Head, whole: &[u8], text: &mut Text<A>) {
-        self.follow(side, head);
+    /// Explains an APDU.
+    fn tell(&mut self, message: Message<'_>, text: &mut Text<A>) {
+        let side = message.side;
+        if let Some(head) = message.head {
+            self.follow(side, head);
+        }
         if self.view.form.is_at_once() {
-            let apdu = whole.get(HEAD..).unwrap_or(&[]);
-            let said = Some(side);
-            write_head(text, side, head);
+            write_head(text, message);
             end(text);
             explain_apdu(
                 text,
                 self.alloc,
                 &mut self.view.opening,
-                said,
+                side,
                 &mut self.services,
-                apdu,
+                message.apdu,
             );
         } else {
-            self.tell_view(side, head, whole, text);
+            self.tell_view(message, text);
         }
-        if side == Side::Meter {
+        if side == Some(Side::Meter) {
             self.services.pass();
         }
     }
 
     /// The octets that one end has sent, with the earlier ones, and how many of them are explained.
-    fn tell_all(&mut self, side: Side, octets: &[u8], text: &mut Text<A>) -> usize {
+    fn tell_all(&mut self, said: Option<Side>, octets: &[u8], text: &mut Text<A>) -> usize {
         let mut rest = octets;
         for _ in 0..octets.len() {
             let Some(head) = head_of(rest) else {
@@ -175,19 +298,32 @@ impl<A: Allocator + Copy, O: Opener> Asked<A, O> {
             let (Some(whole), Some(next)) = (rest.get(..len), rest.get(len..)) else {
                 break;
             };
-            self.tell(side, head, whole, text);
+            let apdu = whole.get(HEAD..).unwrap_or(&[]);
+            let message = Message {
+                side: side_of(said, head, apdu),
+                head: Some(head),
+                apdu,
+                whole,
+            };
+            self.tell(message, text);
             rest = next;
         }
         octets.len().saturating_sub(rest.len())
     }
 
     /// Octets of one end after the earlier ones that are kept, and the explanation of the APDUs that are then complete.
-    fn take(&mut self, kept: &mut Vec<u8, A>, side: Side, octets: &[u8], text: &mut Text<A>) {
+    fn take(
+        &mut self,
+        kept: &mut Vec<u8, A>,
+        said: Option<Side>,
+        octets: &[u8],
+        text: &mut Text<A>,
+    ) {
         if kept.extend_from_slice(octets).is_err() {
             text.refuse();
             return;
         }
-        let told = self.tell_all(side, kept.as_slice(), text).min(kept.len());
+        let told = self.tell_all(said, kept.as_slice(), text).min(kept.len());
         if told == 0 {
             return;
         }
@@ -206,6 +342,7 @@ impl<A: Allocator + Copy, O: Opener> Wrapped<A, O> {
         Wrapped {
             client: Vec::new(alloc),
             meter: Vec::new(alloc),
+            bare: Vec::new(alloc),
             asked: Asked {
                 alloc,
                 raw: form.raw,
@@ -225,17 +362,51 @@ impl<A: Allocator + Copy, O: Opener> Wrapped<A, O> {
         }
     }
 
-    /// Takes octets of one end, and appends the explanation of the APDUs that are then complete.
-    pub fn octets(&mut self, side: Side, octets: &[u8], text: &mut Text<A>) {
-        match side {
-            Side::Client => self.asked.take(&mut self.client, side, octets, text),
-            Side::Meter => self.asked.take(&mut self.meter, side, octets, text),
+    /// Takes octets of one end, or of either, and appends the explanation of the APDUs that are then complete.
+    pub fn octets(&mut self, said: Option<Side>, octets: &[u8], text: &mut Text<A>) {
+        match said {
+            Some(Side::Client) => self.asked.take(&mut self.client, said, octets, text),
+            Some(Side::Meter) => self.asked.take(&mut self.meter, said, octets, text),
+            None => self.asked.take(&mut self.bare, said, octets, text),
+        }
+    }
+
+    /// Whether an APDU of this end has begun and is not complete.
+    fn is_within(&self, said: Option<Side>) -> bool {
+        match said {
+            Some(Side::Client) => !self.client.is_empty(),
+            Some(Side::Meter) => !self.meter.is_empty(),
+            None => !self.bare.is_empty(),
+        }
+    }
+
+    /// Takes the octets of a line, with this time, that continue or begin messages of the wrapper, or are an APDU alone, and appends
+    /// their explanation. Whether they are that.
+    pub fn take_line(
+        &mut self,
+        said: Option<Side>,
+        octets: &[u8],
+        stamp: &str,
+        text: &mut Text<A>,
+    ) -> bool {
+        if self.is_within(said) || begins_message(octets) {
+            self.asked.view.stamp_with(stamp, text);
+            self.octets(said, octets, text);
+            return true;
+        }
+        match alone(self.asked.alloc, said, octets) {
+            Some(message) => {
+                self.asked.view.stamp_with(stamp, text);
+                self.asked.tell(message, text);
+                true
+            }
+            None => false,
         }
     }
 
     /// No more octets come.
     pub fn end(&mut self, text: &mut Text<A>) {
-        if !self.client.is_empty() || !self.meter.is_empty() {
+        if !self.client.is_empty() || !self.meter.is_empty() || !self.bare.is_empty() {
             write_note(text, self.asked.view.form.layout, NOT_WHOLE);
         }
     }

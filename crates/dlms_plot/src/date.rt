@@ -17,6 +17,10 @@ pub struct Day(pub u32);
 #[derive(Clone, Copy, Debug, PartialEq, Eq)]
 pub struct Minute(pub u32);
 
+/// A second of the clock as a day and a time of ISO 8601, as `2000-01-01T00:15:00`; a number past the clock's range as such.
+#[derive(Clone, Copy, Debug, PartialEq, Eq)]
+pub struct Iso(pub u32);
+
 /// The date-time of a second of the clock, counted from 2000-01-01 00:00:00. None past the clock's range.
 fn date_time(second: u32) -> Option<[u8; 12]>
     ensures some { IfSome result (λ octets. NamesSecond octets second) }
@@ -59,5 +63,17 @@ impl fmt::Display for Date {
         };
         let [_, _, _, _, _, _, _, second, ..] = octets;
         write!(f, "{day} {minute}:{second:02}")
+    }
+}
+
+impl fmt::Display for Iso {
+    fn fmt<W: fmt::Write>(&self, f: &mut fmt::Formatter<W>) -> fmt::Result {
+        let day = Day(self.0);
+        let minute = Minute(self.0);
+        let Some(octets) = date_time(self.0) else {
+            return write!(f, "{day}");
+        };
+        let [_, _, _, _, _, _, _, second, ..] = octets;
+        write!(f, "{day}T{minute}:{second:02}")
     }
 }

@@ -13,6 +13,9 @@ pub enum PlotFault {
     /// The text is not that of a readings file.
     #[error("{0}")]
     Readings(ReadingsFault),
+    /// No row is of the chosen time.
+    #[error("rows")]
+    NoRows,
     /// A growth was refused.
     #[error("memory")]
     Memory,

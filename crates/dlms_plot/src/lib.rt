@@ -3,8 +3,10 @@
 
 mod canvas;
 mod captures;
+mod choice;
 mod date;
 mod fault;
+mod json;
 mod quantity;
 mod readings;
 mod scale;
@@ -14,9 +16,10 @@ mod terminal;
 mod usual;
 
 pub use captures::{Gap, Period, Sample, power};
-pub use date::{Date, Day, Minute};
+pub use choice::Choice;
+pub use date::{Date, Day, Iso, Minute};
 pub use fault::PlotFault;
 pub use quantity::{Quantity, Thousandth};
-pub use readings::{Curve, Form, plot_readings};
+pub use readings::{Curve, Form, plot_chosen, plot_readings};
 pub use series::Series;
 pub use terminal::write_text;

@@ -37,6 +37,40 @@ impl Quantity {
         }
     }
 
+    /// The quantity of a register's name: its logical name or the end of it, as `1.0.1.8.0.255`, `1.8.0` or `1.8`; its column in a
+    /// readings file, as `r0`, or the number of that; or its name in words. None for another one.
+    pub fn named(text: &str) -> Option<Quantity> {
+        match text {
+            "1.0.1.8.0.255" | "1.8.0" | "1.8" | "r0" | "0" | "active energy import" => {
+                Some(Quantity::Import)
+            }
+            "1.0.2.8.0.255" | "2.8.0" | "2.8" | "r1" | "1" | "active energy export" => {
+                Some(Quantity::Export)
+            }
+            "1.0.3.8.0.255" | "3.8.0" | "3.8" | "r2" | "2" | "reactive energy" => {
+                Some(Quantity::Reactive)
+            }
+            _ => None,
+        }
+    }
+
+    /// The logical name of its register.
+    pub fn code(self) -> &'static str {
+        match self {
+            Quantity::Import => "1.0.1.8.0.255",
+            Quantity::Export => "1.0.2.8.0.255",
+            Quantity::Reactive => "1.0.3.8.0.255",
+        }
+    }
+
+    /// The unit of the quantity per hour.
+    pub fn unit(self) -> &'static str {
+        match self {
+            Quantity::Import | Quantity::Export => "W",
+            Quantity::Reactive => "var",
+        }
+    }
+
     /// The unit of a thousand of the quantity.
     pub fn energy_unit(self) -> &'static str {
         match self {

@@ -6,7 +6,9 @@ ghost use Rattle.dlms_plot.specs.Curve.{IsPlotOf};
 ghost use Rattle.dlms_plot.specs.Rows.{counted_of, differs, sample_of, value_in};
 
 use crate::captures::Sample;
+use crate::choice::Choice;
 use crate::fault::PlotFault;
+use crate::json::{write_empty_json, write_json};
 use crate::quantity::Quantity;
 use crate::series::Series;
 use crate::svg::{write_empty_svg, write_svg};
@@ -23,6 +25,8 @@ pub enum Form {
     Text,
     /// An SVG.
     Svg,
+    /// An object of JSON.
+    Json,
 }
 
 /// The value of a register in a row.
@@ -118,6 +122,24 @@ impl<A: Allocator + Copy> Curve<A> {
             Err(AllocError) => Err(ReadingsFault::Memory),
         }
     }
+
+    /// The curve of the chosen register in the chosen rows of a readings file with this text. `NoRows` is reported if there are rows
+    /// and none is chosen.
+    pub fn of_choice(alloc: A, text: &str, choice: &Choice) -> Result<Option<Curve<A>>, PlotFault> {
+        let readings = Readings::open(alloc, text)?;
+        let rows: Vec<Row, A> = readings
+            .rows()
+            .iter()
+            .filter(|row| choice.has(row))
+            .copied()
+            .collect(alloc)?;
+        if rows.is_empty() && !readings.rows().is_empty() {
+            return Err(PlotFault::NoRows);
+        }
+        let quantity = choice.quantity.unwrap_or(counting_register(&rows));
+        let samples = samples_of(alloc, &rows, quantity)?;
+        Ok(Series::of(alloc, &samples)?.map(|series| Curve { quantity, series }))
+    }
 }
 
 /// Writes a curve, or a message that there is none.
@@ -129,10 +151,12 @@ fn write_curve<A: Allocator + Copy, W: Write>(
     match (curve, form) {
         (Some(curve), Form::Text) => write_text(curve.quantity, &curve.series, output),
         (Some(curve), Form::Svg) => write_svg(curve.quantity, &curve.series, output),
+        (Some(curve), Form::Json) => write_json(curve.quantity, &curve.series, output),
         (None, Form::Text) => {
             output.write_all(b"no curve: there is no period between two captures\n")
         }
         (None, Form::Svg) => write_empty_svg(output),
+        (None, Form::Json) => write_empty_json(output),
     }
 }
 
@@ -146,6 +170,20 @@ pub fn plot_readings<A: Allocator + Copy, W: Write>(
     output: &mut W,
 ) -> Result<(), PlotFault> {
     let curve = Curve::of(alloc, text)?;
+    write_curve(&curve, form, output)?;
+    Ok(())
+}
+
+/// Writes the curve of the chosen register in the chosen rows of the text of a readings file, as `plot_readings` does. `NoRows` is
+/// reported if no row is of the chosen time.
+pub fn plot_chosen<A: Allocator + Copy, W: Write>(
+    alloc: A,
+    text: &str,
+    choice: &Choice,
+    form: Form,
+    output: &mut W,
+) -> Result<(), PlotFault> {
+    let curve = Curve::of_choice(alloc, text, choice)?;
     write_curve(&curve, form, output)?;
     Ok(())
 }

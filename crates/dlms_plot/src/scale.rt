@@ -2,10 +2,12 @@
 ghost use Rattle.std.specs.Prelude.{◌≡◌, ◌≤◌, ◌<◌, ◌*◌, ◌-◌, ◌^◌};
 ghost use Rattle.dlms_plot.specs.Scale.{place_above_of, place_of};
 
+use dlms_data::{LAST_SECOND, octets, secs};
+
 /// The most ticks of the axis of powers, but for that of nothing.
 pub const MOST_POWER_TICKS: u64 = 5;
 
-/// The steps between ticks of the clock: of minutes, hours, days, and years of 365 days.
+/// The steps between ticks of the clock: of minutes, hours, days, and years, which count here as 365 days.
 const TIME_STEPS: [u32; 21] = [
     60,
     300,
@@ -74,10 +76,41 @@ pub fn time_step(span: u32, most: u32) -> u32 {
     SECONDS_A_DAY.saturating_mul(3_650)
 }
 
-/// The first tick from this second on.
+/// The seconds of a year of 365 days.
+const SECONDS_A_YEAR: u32 = 31_536_000;
+
+/// The second at which a year begins, if the clock shows it.
+fn year_begin(year: u16) -> Option<u32> {
+    let [high, low] = year.to_be_bytes();
+    secs(&[high, low, 1, 1, 0xff, 0, 0, 0, 0, 0x80, 0, 0])
+}
+
+/// The first begin of a year from this second on, whose number is a multiple of this.
+fn first_year(begin: u32, years: u32) -> Option<u32> {
+    let [high, low, ..] = octets(begin.min(LAST_SECOND));
+    let mut year = u16::from_be_bytes([high, low]);
+    for _ in 0..20u8 {
+        if u32::from(year).checked_rem(years) == Some(0)
+            && let Some(second) = year_begin(year)
+            && begin <= second
+        {
+            return Some(second);
+        }
+        year = year.saturating_add(1);
+    }
+    None
+}
+
+/// The first tick from this second on: of a step of years the begin of one.
 pub fn first_tick(begin: u32, step: u32) -> u32
     ensures { begin ≤ result }
 {
+    if step % SECONDS_A_YEAR == 0 {
+        match first_year(begin, step / SECONDS_A_YEAR) {
+            Some(tick) if begin <= tick => return tick,
+            _ => {}
+        }
+    }
     match begin.checked_rem(step) {
         Some(0) | None => begin,
         Some(past) => begin.saturating_add(step.saturating_sub(past)),

@@ -167,7 +167,7 @@ fn write_times<W: Write>(plane: Plane, step: u32, output: &mut W) -> io::Result<
         if plane.has(tick) {
             write_time(plane, tick, step, output)?;
         }
-        tick = tick.saturating_add(step);
+        tick = first_tick(tick.saturating_add(1), step);
     }
     Ok(())
 }

@@ -107,7 +107,7 @@ fn axis_of(peaks: &Peaks, begin: u32, span: u32, step: u32) -> Canvas {
         if let Some(column) = column_of(tick, begin, span) {
             axis.set(0, column, b'+');
         }
-        tick = tick.saturating_add(step);
+        tick = first_tick(tick.saturating_add(1), step);
     }
     axis
 }
@@ -167,7 +167,7 @@ fn write_labels<W: Write>(begin: u32, span: u32, step: u32, output: &mut W) -> i
             at = column.saturating_add(width);
             next = at.saturating_add(1);
         }
-        tick = tick.saturating_add(step);
+        tick = first_tick(tick.saturating_add(1), step);
     }
     output.write_all(b"\n")
 }

@@ -10,7 +10,7 @@ use std::io;
 use std::io::Write;
 
 /// The records of a journal page; none if it is no journal page, or its payload is not whole records.
-fn records_at<A: Allocator + Copy>(image: &Image<A>, page: u16) -> Option<Records<'_>> {
+pub fn records_at<A: Allocator + Copy>(image: &Image<A>, page: u16) -> Option<Records<'_>> {
     let PageRead::Content(bytes) = image.page(page) else {
         return None;
     };

@@ -5,6 +5,7 @@
 mod fault;
 mod file;
 mod journal;
+mod json;
 mod pages;
 mod profile;
 mod report;
@@ -13,5 +14,6 @@ mod state;
 mod words;
 
 pub use fault::ShowFault;
+pub use json::write_json_report;
 pub use report::{Curve, write_report};
-pub use show::show_file;
+pub use show::{show_file, show_file_as_json};

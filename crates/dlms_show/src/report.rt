@@ -84,7 +84,7 @@ fn write_active<A: Allocator + Copy, W: Write>(
 }
 
 /// Why a checkpoint is due.
-fn why_due<A: Allocator + Copy>(survey: &Survey<A>) -> &'static str {
+pub fn why_due<A: Allocator + Copy>(survey: &Survey<A>) -> &'static str {
     match &survey.found {
         Ok(Found { journal, .. }) if journal.pages > 0 => "the journal holds records",
         Ok(Found { journal, .. }) if journal.torn => "the journal's first page is damaged",

@@ -2,6 +2,7 @@
 
 use crate::fault::ShowFault;
 use crate::file::bytes_of;
+use crate::json::write_json_report;
 use crate::report::{Curve, write_report};
 use dlms_survey::Image;
 use std::fs::File;
@@ -21,4 +22,18 @@ pub fn show_file<R: Files<File = File> + AllocGlobal, W: Write>(
     };
     let mut image = Image::of_bytes(rt.alloc(), &bytes.pages)?;
     write_report(rt.alloc(), &mut image, bytes.length, curve, output)
+}
+
+/// The same as one object of JSON.
+pub fn show_file_as_json<R: Files<File = File> + AllocGlobal, W: Write>(
+    rt: &R,
+    path: &str,
+    output: &mut W,
+) -> Result<(), ShowFault> {
+    let bytes = match bytes_of(rt, path) {
+        Ok(bytes) => bytes,
+        Err(error) => return Err(ShowFault::File(error)),
+    };
+    let mut image = Image::of_bytes(rt.alloc(), &bytes.pages)?;
+    write_json_report(rt.alloc(), &mut image, bytes.length, output)
 }

@@ -1,0 +1,401 @@
+//! The lines of what a frame contains: its APDU, or its parameters.
+
+use crate::association_text;
+use crate::foreign_text::write_foreign;
+use crate::frame_text::{write_came, write_information, write_no_llc};
+use crate::opening::{Opening, write_initiate, write_verdict};
+use crate::service_text::{write_fault, write_joined, write_said, write_whole};
+use crate::units::{Units, write_units};
+use crate::words::Text;
+use dlms_apdu::{Request, Response};
+use dlms_dissect::{
+    Apdu, Came, Control, Fault, Joined, Numbers, Services, Side, Talk, acse_of, behind_llc,
+    has_poll, is_counted, left_of_acse, misfit, parameters_of, read, read_apdu, read_foreign,
+    without_secret,
+};
+use dlms_frame::Frame;
+use dlms_names::apdu_name;
+use dlms_security::{NoKeys, Opener};
+use std::alloc::{AllocError, Allocator};
+
+/// The number of octets before an APDU in a frame (IEC 62056-46, the LLC sublayer).
+const LLC: usize = 3;
+
+/// The lines of a value to set or of a parameter that is joined of all its blocks.
+fn write_put<A: Allocator + Copy>(text: &mut Text<A>, alloc: A, services: &Services<A>) {
+    match services.put_whole(alloc) {
+        Ok(whole) => {
+            write_whole(text, services.put_len(), &whole);
+            drop(whole);
+        }
+        Err(_) => text.refuse(),
+    }
+}
+
+/// The lines of a value that was read and is joined of all its blocks.
+fn write_got<A: Allocator + Copy>(text: &mut Text<A>, alloc: A, services: &Services<A>) {
+    match services.got_whole(alloc) {
+        Ok(whole) => {
+            write_whole(text, services.got_len(), &whole);
+            drop(whole);
+        }
+        Err(_) => text.refuse(),
+    }
+}
+
+/// The lines of a request, and what its block is among those before it.
+fn hear_request<A: Allocator + Copy>(
+    text: &mut Text<A>,
+    alloc: A,
+    services: &mut Services<A>,
+    request: &Request<'_, A>,
+) -> Option<Joined> {
+    let heard = services.ask(alloc, request);
+    write_said(text, "", &heard.said);
+    heard.joined
+}
+
+/// The lines of a request, and of what its blocks join to.
+fn explain_request<A: Allocator + Copy>(
+    text: &mut Text<A>,
+    alloc: A,
+    services: &mut Services<A>,
+    request: &Request<'_, A>,
+) {
+    match hear_request(text, alloc, services, request) {
+        Some(Joined::Whole) => write_put(text, alloc, services),
+        Some(joined) => write_joined(text, joined),
+        None => {}
+    }
+}
+
+/// The lines of a response, and what its block is among those before it.
+fn hear_response<A: Allocator + Copy>(
+    text: &mut Text<A>,
+    alloc: A,
+    units: &mut Units,
+    services: &mut Services<A>,
+    response: &Response<'_, A>,
+) -> Option<Joined> {
+    match services.answer(alloc, response) {
+        Ok(heard) => {
+            write_said(text, "of ", &heard.said);
+            write_units(text, units, &heard.said);
+            heard.joined
+        }
+        Err(_) => {
+            text.refuse();
+            None
+        }
+    }
+}
+
+/// The lines of a response, and of what its blocks join to.
+fn explain_response<A: Allocator + Copy>(
+    text: &mut Text<A>,
+    alloc: A,
+    units: &mut Units,
+    services: &mut Services<A>,
+    response: &Response<'_, A>,
+) {
+    match hear_response(text, alloc, units, services, response) {
+        Some(Joined::Whole) => write_got(text, alloc, services),
+        Some(joined) => write_joined(text, joined),
+        None => {}
+    }
+}
+
+/// The tag of an association response.
+const ASSOCIATION_RESPONSE: u8 = 0x61;
+
+/// The line of an APDU that is not readable. What the meter's readers refuse at its first two octets may be of a form of the
+/// standard, and does not fit that; of an association response the initiate response may be ciphered.
+fn write_unreadable<A: Allocator>(text: &mut Text<A>, bytes: &[u8], fault: Fault) {
+    if fault.octet <= 2
+        && let Some((form, octet)) = misfit(bytes)
+    {
+        let words = "not of this form";
+        write_fault(text, Some(form.name), Fault { words, octet });
+        return;
+    }
+    if bytes.first() == Some(&ASSOCIATION_RESPONSE) && is_counted(bytes) {
+        let acse = acse_of(bytes);
+        if let (Some(outcome), Some(initiate)) = (acse.outcome, acse.ciphered) {
+            association_text::write_ciphered_response(text, acse, outcome, initiate);
+            return;
+        }
+    }
+    match bytes.first() {
+        Some(octet) => write_fault(text, apdu_name(*octet), fault),
+        None => write_fault(text, None, fault),
+    }
+}
+
+/// The number of octets of an APDU before the first field that is reported by its length or not at all: those may be shown beside
+/// the report, before it is taken. None of an unreadable one may.
+fn open_len<A: Allocator + Copy>(
+    services: &Services<A>,
+    apdu: &Apdu<'_, A>,
+    bytes: &[u8],
+) -> usize {
+    let closed = match apdu {
+        Apdu::Unreadable(_) => bytes.len(),
+        Apdu::Request(_) | Apdu::Response(_) | Apdu::Foreign(_) => match read_foreign(bytes) {
+            Some(foreign) => foreign.hidden_len(services.values(foreign)),
+            None => bytes.len(),
+        },
+        _ => left_of_acse(bytes),
+    };
+    bytes.len().saturating_sub(closed)
+}
+
+/// The lines of an APDU, and with `hex`, how many of its octets may be shown beside them; of a ciphered one also those of the APDU in
+/// it, if keys open it.
+pub fn explain_apdu<A: Allocator + Copy, O: Opener>(
+    text: &mut Text<A>,
+    alloc: A,
+    opening: &mut Opening<O>,
+    side: Option<Side>,
+    services: &mut Services<A>,
+    bytes: &[u8],
+) -> usize {
+    let shown = explain_closed(text, alloc, opening, side, services, bytes);
+    if let Some((is_part, opened)) = opening.opened(side, bytes) {
+        write_verdict(text, is_part, &opened);
+        if let Ok(plain) = &opened {
+            explain_inside(text, alloc, opening, side, services, plain.apdu.as_slice());
+        }
+    }
+    shown
+}
+
+/// The lines of an APDU that was ciphered.
+fn explain_inside<A: Allocator + Copy, O: Opener>(
+    text: &mut Text<A>,
+    alloc: A,
+    opening: &mut Opening<O>,
+    side: Option<Side>,
+    services: &mut Services<A>,
+    bytes: &[u8],
+) {
+    text.go_in();
+    if !write_initiate(text, bytes) {
+        explain_closed(text, alloc, opening, side, services, bytes);
+    }
+    text.go_out();
+}
+
+/// The lines of an APDU, of a ciphered one without its content, and with `hex`, how many of its octets may be shown beside them.
+fn explain_closed<A: Allocator + Copy, O: Opener>(
+    text: &mut Text<A>,
+    alloc: A,
+    opening: &mut Opening<O>,
+    side: Option<Side>,
+    services: &mut Services<A>,
+    bytes: &[u8],
+) -> usize {
+    match read_apdu(alloc, side, bytes) {
+        Ok(apdu) => {
+            let shown = explain_told(text, alloc, opening, side, services, bytes, &apdu);
+            drop(apdu);
+            shown
+        }
+        Err(_) => {
+            text.refuse();
+            0
+        }
+    }
+}
+
+/// The same of one that was read.
+fn explain_told<A: Allocator + Copy, O: Opener>(
+    text: &mut Text<A>,
+    alloc: A,
+    opening: &mut Opening<O>,
+    side: Option<Side>,
+    services: &mut Services<A>,
+    bytes: &[u8],
+    apdu: &Apdu<'_, A>,
+) -> usize {
+    let shown = if opening.hex {
+        open_len(services, apdu, bytes)
+    } else {
+        0
+    };
+    explain_read(text, alloc, &mut opening.units, side, services, bytes, apdu);
+    shown
+}
+
+/// The lines of an APDU that was read.
+fn explain_read<A: Allocator + Copy>(
+    text: &mut Text<A>,
+    alloc: A,
+    units: &mut Units,
+    side: Option<Side>,
+    services: &mut Services<A>,
+    bytes: &[u8],
+    apdu: &Apdu<'_, A>,
+) {
+    match apdu {
+        Apdu::AssociationRequest(request) => {
+            association_text::write_request(text, without_secret(request), acse_of(bytes));
+        }
+        Apdu::AssociationResponse(response) => {
+            association_text::write_response(text, *response, acse_of(bytes));
+        }
+        Apdu::ReleaseRequest(reason) => association_text::write_release_request(text, *reason),
+        Apdu::ReleaseResponse(reason) => association_text::write_release_response(text, *reason),
+        Apdu::Request(request) => explain_request(text, alloc, services, request),
+        Apdu::Response(response) => explain_response(text, alloc, units, services, response),
+        Apdu::Foreign(foreign) => {
+            let of = services.answered_with(*foreign);
+            let secrecy = services.hear(alloc, *foreign);
+            write_foreign(text, alloc, *foreign, of, secrecy);
+        }
+        Apdu::Unreadable(fault) => {
+            if side != Some(Side::Meter) {
+                services.forget(alloc);
+            }
+            write_unreadable(text, bytes, *fault);
+        }
+    }
+}
+
+/// The lines of the APDU that the last information frame of this side completed, and how many of its octets may be shown beside
+/// them.
+fn explain_whole<A: Allocator + Copy, O: Opener>(
+    text: &mut Text<A>,
+    alloc: A,
+    opening: &mut Opening<O>,
+    side: Option<Side>,
+    talk: &mut Talk<A>,
+) -> usize {
+    match side {
+        Some(Side::Meter) => {
+            let apdu = talk.meter.apdu();
+            let shown = explain_apdu(text, alloc, opening, side, &mut talk.services, apdu);
+            talk.services.pass();
+            shown
+        }
+        _ => {
+            let apdu = talk.client.apdu();
+            explain_apdu(text, alloc, opening, side, &mut talk.services, apdu)
+        }
+    }
+}
+
+/// The lines of an APDU by itself, as in a frame that is not taken: nothing is known of earlier ones, and it changes nothing.
+fn explain_alone<A: Allocator + Copy, O: Opener>(
+    text: &mut Text<A>,
+    alloc: A,
+    opening: &mut Opening<O>,
+    side: Option<Side>,
+    raw: bool,
+    info: &[u8],
+) -> usize {
+    let Some(apdu) = behind_llc(side, info) else {
+        write_no_llc(text);
+        return 0;
+    };
+    explain_apdu(
+        text,
+        alloc,
+        opening,
+        side,
+        &mut Services::new(alloc, raw),
+        apdu,
+    )
+    .saturating_add(LLC)
+}
+
+/// Appends the lines of an APDU by itself, from this side or from either: nothing is known of earlier ones. Of secrets, and of
+/// strings that may be one, only the length is shown. If memory is refused the text may end within a line.
+pub fn write_apdu<A: Allocator + Copy>(
+    words: &mut String<A>,
+    alloc: A,
+    side: Option<Side>,
+    bytes: &[u8],
+) -> Result<(), AllocError> {
+    let mut text = Text::behind(words);
+    let mut services = Services::new(alloc, false);
+    let mut opening = Opening::new(NoKeys, false);
+    explain_apdu(&mut text, alloc, &mut opening, side, &mut services, bytes);
+    text.end(words)
+}
+
+/// The lines of an information frame, and how many octets of its information may be shown beside them: none of an APDU in segments.
+fn explain_information<A: Allocator + Copy, O: Opener>(
+    text: &mut Text<A>,
+    alloc: A,
+    opening: &mut Opening<O>,
+    side: Option<Side>,
+    talk: &mut Talk<A>,
+    numbers: Numbers,
+    frame: &Frame<'_>,
+) -> usize {
+    let info = frame.info;
+    let Ok(came) = talk.take(alloc, side, numbers, frame.segmented, info) else {
+        text.refuse();
+        return 0;
+    };
+    write_came(text, came);
+    let raw = talk.services.is_raw();
+    match came {
+        Came::Apart => explain_alone(text, alloc, opening, side, raw, info),
+        Came::NoPoll if !frame.segmented => explain_alone(text, alloc, opening, side, raw, info),
+        Came::Whole(count) => {
+            let shown = explain_whole(text, alloc, opening, side, talk);
+            if count == 1 {
+                shown.saturating_add(LLC)
+            } else {
+                0
+            }
+        }
+        _ => 0,
+    }
+}
+
+/// The lines of the parameters of an SNRM or a UA, if it has any, and how many octets of these may be shown beside them: all but
+/// those after the parameters, if each is readable.
+fn explain_parameters<A: Allocator>(text: &mut Text<A>, info: &[u8]) -> usize {
+    if info.is_empty() {
+        return 0;
+    }
+    let parameters = parameters_of(info);
+    write_information(text, parameters);
+    match parameters {
+        Some(parameters) if parameters.wrong.is_none() => {
+            info.len().saturating_sub(parameters.behind)
+        }
+        _ => 0,
+    }
+}
+
+/// The lines of a frame's content, and how many octets of its information may be shown beside them.
+pub fn explain_content<A: Allocator + Copy, O: Opener>(
+    text: &mut Text<A>,
+    alloc: A,
+    opening: &mut Opening<O>,
+    side: Option<Side>,
+    talk: &mut Talk<A>,
+    frame: &Frame<'_>,
+) -> usize {
+    talk.heed(alloc, side, frame.control);
+    match read(frame.control) {
+        Control::Snrm | Control::Ua => explain_parameters(text, frame.info),
+        Control::Information { send, receive } => {
+            let poll = has_poll(frame.control);
+            let numbers = Numbers {
+                send,
+                receive,
+                poll,
+            };
+            explain_information(text, alloc, opening, side, talk, numbers, frame)
+        }
+        Control::Ui => {
+            let raw = talk.services.is_raw();
+            explain_alone(text, alloc, opening, side, raw, frame.info)
+        }
+        _ => 0,
+    }
+}
