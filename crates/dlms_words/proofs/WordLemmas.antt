@@ -12,7 +12,7 @@ use Rattle.clap.specs.Walk.{Held, Names, answers_to, finished, nothing_held, set
 use Rattle.clap.specs.Kinds.{Kinds, check_kinds, or_else}
 use Rattle.std.specs.Prelude.{slice_get, map}
 use Rattle.std.proofs.lemmas.Option.{slice_get-map}
-use Rattle.dlms_words.specs.Words.{nth_of}
+use Rattle.dlms_words.specs.Words.{IsNoneOf, meter_commands, nth_of, others, requests}
 use Rattle.dlms_words.specs.Grammar.{dlms}
 
 -- ---- where no fault is met, a command is
@@ -92,45 +92,52 @@ other_name name met found is not_it has = not_it (ap (option_map (λ p. p.0)) (i
 
 -- the command line of a job with another name than the others
 pub polls_else : (words : List Text) (met : Option (Text × List Row)) → fault_of dlms words ≡ [] → met ≡ subcommand_of dlms words
-    → IsNot (codes "format") met → IsNot (codes "replay") met → IsNot (codes "loopback") met → IsNot (codes "serve") met
-    → IsNot (codes "get") met → IsNot (codes "list") met → IsNot (codes "profile") met → IsNot (codes "clock") met → IsNot (codes "set") met → IsNot (codes "act") met
-    → IsNot (codes "explain") met → IsNot (codes "show") met → IsNot (codes "plot") met → IsNot (codes "keys") met → IsNot (codes "collect") met
+    → IsNoneOf meter_commands met → IsNoneOf requests met → IsNoneOf others met
     → (rows : List Row) × (subcommand_of dlms words ≡ Some (codes "poll", rows))
-polls_else words met none is formats replays loops serves gets lists profiles clocks sets acts explains shows plots keys collects =
+polls_else words met none is meters asks looks =
     let found = subcommand_of dlms words in
     elim (command_met words none) [
-      | inl has ↦ absurd (other_name _ met found is formats has)
+      | inl has ↦ absurd (other_name _ met found is meters.0 has)
       | inr rest ↦ elim rest [
-        | inl has ↦ absurd (other_name _ met found is replays has)
+        | inl has ↦ absurd (other_name _ met found is meters.1.0 has)
         | inr rest ↦ elim rest [
-          | inl has ↦ absurd (other_name _ met found is loops has)
+          | inl has ↦ absurd (other_name _ met found is meters.1.1.0 has)
           | inr rest ↦ elim rest [
-            | inl has ↦ absurd (other_name _ met found is serves has)
+            | inl has ↦ absurd (other_name _ met found is meters.1.1.1.0 has)
             | inr rest ↦ elim rest [
               | inl has ↦ has
               | inr rest ↦ elim rest [
-                | inl has ↦ absurd (other_name _ met found is collects has)
+                | inl has ↦ absurd (other_name _ met found is meters.1.1.1.1.0 has)
                 | inr rest ↦ elim rest [
-                  | inl has ↦ absurd (other_name _ met found is gets has)
+                  | inl has ↦ absurd (other_name _ met found is asks.0 has)
                   | inr rest ↦ elim rest [
-                    | inl has ↦ absurd (other_name _ met found is lists has)
+                    | inl has ↦ absurd (other_name _ met found is asks.1.0 has)
                     | inr rest ↦ elim rest [
-                      | inl has ↦ absurd (other_name _ met found is profiles has)
+                      | inl has ↦ absurd (other_name _ met found is asks.1.1.0 has)
                       | inr rest ↦ elim rest [
-                        | inl has ↦ absurd (other_name _ met found is clocks has)
+                        | inl has ↦ absurd (other_name _ met found is asks.1.1.1.0 has)
                         | inr rest ↦ elim rest [
-                          | inl has ↦ absurd (other_name _ met found is sets has)
+                          | inl has ↦ absurd (other_name _ met found is asks.1.1.1.1.0 has)
                           | inr rest ↦ elim rest [
-                            | inl has ↦ absurd (other_name _ met found is acts has)
+                            | inl has ↦ absurd (other_name _ met found is asks.1.1.1.1.1.0 has)
                             | inr rest ↦ elim rest [
-                              | inl has ↦ absurd (other_name _ met found is explains has)
+                              | inl has ↦ absurd (other_name _ met found is looks.0 has)
                               | inr rest ↦ elim rest [
-                                | inl has ↦ absurd (other_name _ met found is shows has)
+                                | inl has ↦ absurd (other_name _ met found is looks.1.0 has)
                                 | inr rest ↦ elim rest [
-                                  | inl has ↦ absurd (other_name _ met found is plots has)
+                                  | inl has ↦ absurd (other_name _ met found is looks.1.1.0 has)
                                   | inr rest ↦ elim rest [
-                                    | inl has ↦ absurd (other_name _ met found is keys has)
-                                    | inr no_more ↦ absurd no_more
+                                    | inl has ↦ absurd (other_name _ met found is looks.1.1.1.0 has)
+                                    | inr rest ↦ elim rest [
+                                      | inl has ↦ absurd (other_name _ met found is looks.1.1.1.1.0 has)
+                                      | inr rest ↦ elim rest [
+                                        | inl has ↦ absurd (other_name _ met found is looks.1.1.1.1.1.0 has)
+                                        | inr rest ↦ elim rest [
+                                          | inl has ↦ absurd (other_name _ met found is looks.1.1.1.1.1.1.0 has)
+                                          | inr no_more ↦ absurd no_more
+                                        ]
+                                      ]
+                                    ]
                                   ]
                                 ]
                               ]

@@ -9,7 +9,7 @@ use Rattle.clap.specs.declared.builder.value_parser.ValueParser.TheVariants as p
 use Rattle.dlms_words.specs.declared.arguments.Argument.{Argument}
 use Rattle.dlms_words.specs.declared.arguments.Kind.{Kind}
 use Rattle.dlms_words.specs.declared.arguments.Kind.TheVariants.{Value, Wanted, Flag, ShortFlag, Option as OptionOf, Needed, Options, Number}
-use Rattle.dlms_words.specs.declared.grammar.CommandWords.{CommandWords}
+use Rattle.dlms_words.specs.declared.table.CommandWords.{CommandWords}
 
 -- ---- what a command may be given
 
@@ -83,48 +83,14 @@ with_commands app (command ∷ commands) = with_commands (with_subcommand app co
 
 -- ---- the commands
 
-abbrev pub format_command : App
-format_command = with_rules (new_app (codes "format"))
-    (wanted_rule (codes "FILE") ∷ flag_rule (codes "demo") ∷ flag_rule (codes "force") ∷ [])
-
-abbrev pub replay_command : App
-replay_command = with_rules (new_app (codes "replay")) (value_rule (codes "FILE") ∷ [])
-
-abbrev pub loopback_command : App
-loopback_command = with_rules (new_app (codes "loopback"))
-    (option_rule (codes "readings") ∷ number_rule (codes "stops") 0 100 ∷ [])
-
--- a load in watts, and times in seconds
-abbrev pub serve_command : App
-serve_command = with_rules (new_app (codes "serve"))
-    (wanted_rule (codes "FILE") ∷ option_rule (codes "listen") ∷ option_rule (codes "line")
-    ∷ flag_rule (codes "wrapper")
-    ∷ number_rule (codes "load") 0 1000000 ∷ number_rule (codes "tick") 1 60
-    ∷ flag_rule (codes "quiet")
-    ∷ number_rule (codes "idle") 1 86400 ∷ number_rule (codes "turn") 1 86400
-    ∷ number_rule (codes "inactivity") 1 86400 ∷ [])
-
-abbrev pub poll_command : App
-poll_command = with_rules (new_app (codes "poll"))
-    (wanted_rule (codes "PLACE") ∷ option_rule (codes "readings")
-    ∷ option_rule (codes "secret-file") ∷ flag_rule (codes "public")
-    ∷ flag_rule (codes "reader")
-    ∷ number_rule (codes "deadline") 1 86400 ∷ flag_rule (codes "check-clock")
-    ∷ number_rule (codes "ahead") 0 31536000 ∷ flag_rule (codes "strict")
-    ∷ options_rule (codes "expect") ∷ number_rule (codes "timeout") 1 3600
-    ∷ number_rule (codes "retries") 0 100
-    ∷ flag_rule (codes "wrapper") ∷ number_rule (codes "client") 1 127
-    ∷ option_rule (codes "server") ∷ flag_rule (codes "wide")
+-- the meter that is polled, and how it is reached
+abbrev pub polling_rules : List Rule
+polling_rules =
+    option_rule (codes "secret-file") ∷ number_rule (codes "timeout") 1 3600
+    ∷ number_rule (codes "retries") 0 100 ∷ flag_rule (codes "wrapper")
+    ∷ number_rule (codes "client") 1 127 ∷ option_rule (codes "server") ∷ flag_rule (codes "wide")
     ∷ number_rule (codes "information") 128 2030 ∷ option_rule (codes "security")
-    ∷ option_rule (codes "counter-from") ∷ [])
-
-abbrev pub collect_command : App
-collect_command = with_rules (new_app (codes "collect"))
-    (wanted_rule (codes "LIST") ∷ needed_rule (codes "readings")
-    ∷ option_rule (codes "secret-file") ∷ number_rule (codes "client") 1 127
-    ∷ number_rule (codes "at-once") 1 100000 ∷ number_rule (codes "deadline") 1 86400
-    ∷ number_rule (codes "every") 1 31536000 ∷ number_rule (codes "retries") 0 100
-    ∷ option_rule (codes "failed") ∷ flag_rule (codes "quiet") ∷ flag_rule (codes "json") ∷ [])
+    ∷ option_rule (codes "counter-from") ∷ []
 
 -- the meter to ask, the client that asks, whether the frames are explained, and the longest value
 abbrev pub asking_rules : List Rule
@@ -136,64 +102,115 @@ asking_rules =
     ∷ option_rule (codes "security") ∷ option_rule (codes "counter-from")
     ∷ short_flag_rule (codes "verbose") 118 ∷ number_rule (codes "most") 1 16777216 ∷ []
 
+abbrev pub format_command : App
+format_command = with_rules (new_app (codes "format"))
+    (wanted_rule (codes "FILE") ∷ flag_rule (codes "demo") ∷ flag_rule (codes "demo-day")
+    ∷ flag_rule (codes "force") ∷ [])
+
+abbrev pub replay_command : App
+replay_command = with_rules (new_app (codes "replay"))
+    (value_rule (codes "FILE") ∷ [])
+
+abbrev pub loopback_command : App
+loopback_command = with_rules (new_app (codes "loopback"))
+    (option_rule (codes "readings") ∷ number_rule (codes "stops") 0 100 ∷ [])
+
+-- a load in watts, and times in seconds
+abbrev pub serve_command : App
+serve_command = with_rules (new_app (codes "serve"))
+    (wanted_rule (codes "FILE") ∷ option_rule (codes "listen") ∷ option_rule (codes "line")
+    ∷ flag_rule (codes "wrapper") ∷ number_rule (codes "load") 0 1000000
+    ∷ number_rule (codes "tick") 1 60 ∷ flag_rule (codes "quiet")
+    ∷ number_rule (codes "idle") 1 86400 ∷ number_rule (codes "turn") 1 86400
+    ∷ number_rule (codes "inactivity") 1 86400 ∷ [])
+
+abbrev pub poll_command : App
+poll_command = with_rules (with_rules (new_app (codes "poll"))
+    (wanted_rule (codes "PLACE") ∷ option_rule (codes "readings") ∷ flag_rule (codes "public")
+    ∷ flag_rule (codes "reader") ∷ number_rule (codes "deadline") 1 86400
+    ∷ flag_rule (codes "check-clock") ∷ number_rule (codes "ahead") 0 31536000
+    ∷ flag_rule (codes "strict") ∷ options_rule (codes "expect") ∷ flag_rule (codes "json")
+    ∷ flag_rule (codes "quiet") ∷ []))
+    polling_rules
+
+abbrev pub collect_command : App
+collect_command = with_rules (new_app (codes "collect"))
+    (wanted_rule (codes "LIST") ∷ needed_rule (codes "readings")
+    ∷ option_rule (codes "secret-file") ∷ number_rule (codes "client") 1 127
+    ∷ number_rule (codes "at-once") 1 100000 ∷ number_rule (codes "deadline") 1 86400
+    ∷ number_rule (codes "every") 1 31536000 ∷ number_rule (codes "retries") 0 100
+    ∷ option_rule (codes "failed") ∷ flag_rule (codes "quiet") ∷ flag_rule (codes "json") ∷ [])
+
 abbrev pub get_command : App
-get_command = with_rules
-    (with_rules (new_app (codes "get"))
-    (wanted_rule (codes "PLACE") ∷ wanted_rule (codes "NAMES") ∷ number_rule (codes "class") 1 65535
-    ∷ flag_rule (codes "raw") ∷ flag_rule (codes "json") ∷ []))
+get_command = with_rules (with_rules (new_app (codes "get"))
+    (wanted_rule (codes "PLACE") ∷ wanted_rule (codes "NAMES")
+    ∷ number_rule (codes "class") 1 65535 ∷ flag_rule (codes "raw") ∷ flag_rule (codes "json") ∷ []))
     asking_rules
 
 abbrev pub list_command : App
 list_command = with_rules (with_rules (new_app (codes "list"))
-    (wanted_rule (codes "PLACE") ∷ flag_rule (codes "json") ∷ [])) asking_rules
+    (wanted_rule (codes "PLACE") ∷ flag_rule (codes "long") ∷ flag_rule (codes "quiet")
+    ∷ flag_rule (codes "json") ∷ []))
+    asking_rules
 
 abbrev pub profile_command : App
-profile_command = with_rules
-    (with_rules (new_app (codes "profile"))
+profile_command = with_rules (with_rules (new_app (codes "profile"))
     (wanted_rule (codes "PLACE") ∷ value_rule (codes "NAME") ∷ option_rule (codes "from")
     ∷ option_rule (codes "to") ∷ number_rule (codes "last") 1 1000000 ∷ flag_rule (codes "csv")
     ∷ flag_rule (codes "json") ∷ flag_rule (codes "raw") ∷ flag_rule (codes "quiet") ∷ []))
     asking_rules
 
 abbrev pub clock_command : App
-clock_command = with_rules
-    (with_rules (new_app (codes "clock"))
+clock_command = with_rules (with_rules (new_app (codes "clock"))
     (wanted_rule (codes "PLACE") ∷ flag_rule (codes "set")
     ∷ number_rule (codes "threshold") 0 86400 ∷ flag_rule (codes "json") ∷ []))
     asking_rules
 
 abbrev pub set_command : App
-set_command = with_rules
-    (with_rules (new_app (codes "set"))
+set_command = with_rules (with_rules (new_app (codes "set"))
     (wanted_rule (codes "PLACE") ∷ wanted_rule (codes "NAME") ∷ wanted_rule (codes "VALUE")
-    ∷ number_rule (codes "class") 1 65535 ∷ []))
+    ∷ number_rule (codes "class") 1 65535 ∷ flag_rule (codes "json") ∷ []))
     asking_rules
 
 abbrev pub act_command : App
-act_command = with_rules
-    (with_rules (new_app (codes "act"))
+act_command = with_rules (with_rules (new_app (codes "act"))
     (wanted_rule (codes "PLACE") ∷ wanted_rule (codes "NAME") ∷ value_rule (codes "VALUE")
-    ∷ number_rule (codes "class") 1 65535 ∷ []))
+    ∷ number_rule (codes "class") 1 65535 ∷ flag_rule (codes "json") ∷ []))
     asking_rules
 
 abbrev pub explain_command : App
 explain_command = with_rules (new_app (codes "explain"))
     (value_rule (codes "FILE") ∷ flag_rule (codes "raw") ∷ flag_rule (codes "short")
-    ∷ flag_rule (codes "hex") ∷ flag_rule (codes "json") ∷ option_rule (codes "keys") ∷ [])
+    ∷ flag_rule (codes "hex") ∷ flag_rule (codes "json") ∷ option_rule (codes "keys")
+    ∷ option_rule (codes "color") ∷ flag_rule (codes "quiet") ∷ [])
 
 abbrev pub show_command : App
 show_command = with_rules (new_app (codes "show"))
-    (wanted_rule (codes "FILE") ∷ flag_rule (codes "plot") ∷ [])
+    (wanted_rule (codes "FILE") ∷ flag_rule (codes "plot") ∷ flag_rule (codes "json") ∷ [])
 
 abbrev pub plot_command : App
 plot_command = with_rules (new_app (codes "plot"))
-    (wanted_rule (codes "READINGS") ∷ flag_rule (codes "svg") ∷ [])
+    (wanted_rule (codes "READINGS") ∷ flag_rule (codes "svg") ∷ flag_rule (codes "json")
+    ∷ option_rule (codes "register") ∷ option_rule (codes "from")
+    ∷ option_rule (codes "to") ∷ flag_rule (codes "quiet") ∷ [])
 
 -- what is to be done, and the file of settings
 abbrev pub keys_command : App
 keys_command = with_rules (new_app (codes "keys"))
     (wanted_rule (codes "ACTION") ∷ wanted_rule (codes "FILE")
     ∷ number_rule (codes "first") 0 4294967294 ∷ [])
+
+abbrev pub names_command : App
+names_command = with_rules (new_app (codes "names"))
+    (wanted_rule (codes "WORD") ∷ [])
+
+abbrev pub man_command : App
+man_command = with_rules (new_app (codes "man"))
+    []
+
+abbrev pub completions_command : App
+completions_command = with_rules (new_app (codes "completions"))
+    (wanted_rule (codes "SHELL") ∷ [])
 
 -- the program has a version, and wants one of its commands
 abbrev pub top : App
@@ -208,8 +225,9 @@ top = record (new_app (codes "dlms")) {
 
 abbrev pub commands : List App
 commands = format_command ∷ replay_command ∷ loopback_command ∷ serve_command ∷ poll_command
-    ∷ collect_command ∷ get_command ∷ list_command ∷ profile_command ∷ clock_command ∷ set_command ∷ act_command
-    ∷ explain_command ∷ show_command ∷ plot_command ∷ keys_command ∷ []
+    ∷ collect_command ∷ get_command ∷ list_command ∷ profile_command ∷ clock_command ∷ set_command
+    ∷ act_command ∷ explain_command ∷ show_command ∷ plot_command ∷ keys_command ∷ names_command
+    ∷ man_command ∷ completions_command ∷ []
 
 abbrev pub dlms : App
 dlms = with_commands top commands

@@ -1,25 +1,29 @@
 -- The job of a parsed command line.
 use Rattle.std.specs.Str.{bytes_eq}
 use Rattle.std.specs.Str.Parse.{without_leading_plus}
-use Rattle.std.specs.Prelude.{◌≡◌, ◌⊎◌, if◌then◌else◌, ◌<◌, ◌↔◌, ◌^◌, ℕ, [], ◌∷◌, List, Option, Some, None, codes, cond, option_map, unwrap_or, Bool, true, false, is_some, IsTrue, slice_get}
+use Rattle.std.specs.Prelude.{◌≡◌, ◌⊎◌, ◌||◌, if◌then◌else◌, ◌<◌, ◌↔◌, ◌^◌, ℕ, [], ◌∷◌, List, Option, Some, None, codes, cond, option_map, unwrap_or, Bool, true, false, is_some, IsTrue, slice_get}
 use Rattle.clap.specs.Values.{kind_of}
 use Rattle.clap.specs.Words.{Row, Text, all_of, first_of}
 use Rattle.clap.specs.declared.error.Error.{Error}
 use Rattle.clap.specs.declared.error.kind.ErrorKind.TheVariants.{ArgumentConflict, InvalidValue}
 use Rattle.dlms_words.specs.declared.commands.Job.{Job}
-use Rattle.dlms_words.specs.declared.commands.Job.TheVariants.{Format, Replay, Loopback, Serve, Poll, Collect, Get, List as ListOf, Profile, Clock, Set, Act, Explain, Show, Plot, Keys}
+use Rattle.dlms_words.specs.declared.commands.Job.TheVariants.{Format, Replay, Loopback, Serve, Poll, Collect, Get, List as ListOf, Profile, Clock, Set, Act, Explain, Show, Plot, Keys, Names, Man, Completions}
 use Rattle.dlms_words.specs.declared.commands.Asking.{Asking}
+use Rattle.dlms_words.specs.declared.commands.ColorChoice.{ColorChoice}
+use Rattle.dlms_words.specs.declared.commands.ColorChoice.TheVariants.{Always, Auto, Never}
 use Rattle.dlms_words.specs.declared.commands.Expecting.{Expecting}
 use Rattle.dlms_words.specs.declared.commands.MeterOptions.{MeterOptions}
 use Rattle.dlms_words.specs.declared.commands.OutputFormat.{OutputFormat}
 use Rattle.dlms_words.specs.declared.commands.OutputFormat.TheVariants as output
+use Rattle.dlms_words.specs.declared.commands.Shell.{Shell}
+use Rattle.dlms_words.specs.declared.commands.Shell.TheVariants.{Bash, Fish, Zsh}
 use Rattle.dlms_words.specs.declared.commands.TableFormat.{TableFormat}
 use Rattle.dlms_words.specs.declared.commands.TableFormat.TheVariants as table
 use Rattle.dlms_words.specs.declared.commands.ValueFormat.{ValueFormat}
 use Rattle.dlms_words.specs.declared.commands.ValueFormat.TheVariants as value
 use Rattle.dlms_words.specs.declared.commands.ValueFormat.TheVariants.{Encoding}
-use Rattle.dlms_words.specs.declared.words.TheConstants.{AHEAD, AT_ONCE, CLIENT, DEADLINE, IDLE, INACTIVITY, MOST, THRESHOLD, TICK, TIMEOUT, TURN}
-use Rattle.dlms_words.specs.Addresses.{IsAddress, is_device, line_of}
+use Rattle.dlms_words.specs.declared.defaults.TheConstants.{AHEAD, AT_ONCE, CLIENT, DEADLINE, IDLE, INACTIVITY, MOST, THRESHOLD, TICK, TIMEOUT, TURN}
+use Rattle.dlms_words.specs.Addresses.{IsAddress, IsPlace}
 use Rattle.dlms_words.specs.Numbers.{IsNumberOf}
 use Rattle.dlms_frame.specs.declared.client.Client.{Client}
 use Rattle.dlms_frame.specs.declared.client.Client.TheVariants.{Public, Management, Reader}
@@ -116,6 +120,18 @@ abbrev pub ChoosesFormat : List Row → OutputFormat → Type 0
 ChoosesFormat rows format = (json : Bool) × IsSaid (first_of (codes "json") rows) json
     × (format ≡ output_format json)
 
+-- when an explanation is colored, by the word that was given
+abbrev pub color_by : Option Text → ColorChoice
+color_by None = Auto
+color_by (Some text) = if bytes_eq text (codes "always") then Always
+    else (if bytes_eq text (codes "never") then Never else Auto)
+
+-- the shell of this name
+abbrev pub shell_by : Option Text → Shell
+shell_by None = Bash
+shell_by (Some text) = if bytes_eq text (codes "zsh") then Zsh
+    else (if bytes_eq text (codes "fish") then Fish else Bash)
+
 -- the meter and the way to it: its place and address, the size of its frames, the carrier, the
 -- secret, the keys and where the last counter is read, how long an answer is waited for, and how
 -- often the meter is called again
@@ -156,6 +172,7 @@ abbrev pub Asks : Met → Job → Type 0
 Asks met (Format options) = (rows : List Row) × (met ≡ Some (codes "format", rows))
     × (options.file.now ≡ unwrap_or (file_in rows) [])
     × IsSaid (first_of (codes "demo") rows) options.demo
+    × IsSaid (first_of (codes "demo-day") rows) options.demo_day
     × IsSaid (first_of (codes "force") rows) options.force
 Asks met (Replay file) = (rows : List Row) × (met ≡ Some (codes "replay", rows))
     × (option_map (λ f. f.now) file ≡ file_in rows)
@@ -182,6 +199,8 @@ Asks met (Poll options) = (rows : List Row) × (met ≡ Some (codes "poll", rows
     × ChecksClock rows options.ahead
     × IsSaid (first_of (codes "strict") rows) options.strict
     × IsExpecting (all_of (codes "expect") rows) options.expecting
+    × IsSaid (first_of (codes "quiet") rows) options.quiet
+    × ChoosesFormat rows options.format
 Asks met (Collect options) = (rows : List Row) × (met ≡ Some (codes "collect", rows))
     × (options.list.now ≡ unwrap_or (first_of (codes "LIST") rows) [])
     × (options.readings.now ≡ unwrap_or (first_of (codes "readings") rows) [])
@@ -201,6 +220,8 @@ Asks met (Get options) = (rows : List Row) × (met ≡ Some (codes "get", rows))
     × ChoosesValueFormat rows options.format
 Asks met (ListOf options) = (rows : List Row) × (met ≡ Some (codes "list", rows))
     × IsAsking rows options.asking × ChoosesFormat rows options.format
+    × IsSaid (first_of (codes "long") rows) options.long
+    × IsSaid (first_of (codes "quiet") rows) options.quiet
 Asks met (Profile options) = (rows : List Row) × (met ≡ Some (codes "profile", rows))
     × IsAsking rows options.asking
     × (option_map (λ n. n.now) options.name ≡ first_of (codes "NAME") rows)
@@ -220,32 +241,57 @@ Asks met (Set options) = (rows : List Row) × (met ≡ Some (codes "set", rows))
     × (options.name.now ≡ unwrap_or (first_of (codes "NAME") rows) [])
     × (options.value.now ≡ unwrap_or (first_of (codes "VALUE") rows) [])
     × IsSaidFor (codes "class") rows 0 options.class
+    × ChoosesFormat rows options.format
 Asks met (Act options) = (rows : List Row) × (met ≡ Some (codes "act", rows))
     × IsAsking rows options.asking
     × (options.name.now ≡ unwrap_or (first_of (codes "NAME") rows) [])
     × (option_map (λ v. v.now) options.value ≡ first_of (codes "VALUE") rows)
     × IsSaidFor (codes "class") rows 0 options.class
+    × ChoosesFormat rows options.format
 Asks met (Explain options) = (rows : List Row) × (met ≡ Some (codes "explain", rows))
     × (option_map (λ f. f.now) options.file ≡ file_in rows)
     × IsSaid (first_of (codes "raw") rows) options.raw
     × IsSaid (first_of (codes "short") rows) options.short
     × IsSaid (first_of (codes "hex") rows) options.hex × ChoosesFormat rows options.format
     × (option_map (λ f. f.now) options.keys ≡ first_of (codes "keys") rows)
+    × (options.color ≡ color_by (first_of (codes "color") rows))
+    × IsSaid (first_of (codes "quiet") rows) options.quiet
 Asks met (Show options) = (rows : List Row) × (met ≡ Some (codes "show", rows))
     × (options.file.now ≡ unwrap_or (file_in rows) [])
     × IsSaid (first_of (codes "plot") rows) options.plot
+    × ChoosesFormat rows options.format
 Asks met (Plot options) = (rows : List Row) × (met ≡ Some (codes "plot", rows))
     × (options.readings.now ≡ unwrap_or (first_of (codes "READINGS") rows) [])
     × IsSaid (first_of (codes "svg") rows) options.svg
+    × ChoosesFormat rows options.format
+    × (option_map (λ r. r.now) options.register ≡ first_of (codes "register") rows)
+    × (option_map (λ t. t.now) options.from ≡ first_of (codes "from") rows)
+    × (option_map (λ t. t.now) options.to ≡ first_of (codes "to") rows)
+    × IsSaid (first_of (codes "quiet") rows) options.quiet
 Asks met (Keys options) = (rows : List Row) × (met ≡ Some (codes "keys", rows))
     × (options.action.now ≡ unwrap_or (first_of (codes "ACTION") rows) [])
     × (options.file.now ≡ unwrap_or (file_in rows) [])
     × IsSaidFor (codes "first") rows 0 options.first
+Asks met (Names word) = (rows : List Row) × (met ≡ Some (codes "names", rows))
+    × (word.now ≡ unwrap_or (first_of (codes "WORD") rows) [])
+Asks met Man = (rows : List Row) × (met ≡ Some (codes "man", rows))
+Asks met (Completions shell) = (rows : List Row) × (met ≡ Some (codes "completions", rows))
+    × (shell ≡ shell_by (first_of (codes "SHELL") rows))
+
+-- the commands that make or run a meter, or poll many
+abbrev pub meter_commands : List Text
+meter_commands = codes "format" ∷ codes "replay" ∷ codes "loopback" ∷ codes "serve"
+    ∷ codes "collect" ∷ []
 
 -- the commands that make a request of any meter
 abbrev pub requests : List Text
 requests = codes "get" ∷ codes "list" ∷ codes "profile" ∷ codes "clock" ∷ codes "set" ∷ codes "act"
     ∷ []
+
+-- the commands that need no meter
+abbrev pub others : List Text
+others = codes "explain" ∷ codes "show" ∷ codes "plot" ∷ codes "keys" ∷ codes "names"
+    ∷ codes "man" ∷ codes "completions" ∷ []
 
 -- what was found is none of these commands
 abbrev pub IsNoneOf : List Text → Met → Type 0
@@ -254,22 +300,29 @@ IsNoneOf (name ∷ names) met = (option_map (λ p. p.0) met ≡ Some name → �
 
 -- ---- words that clap takes, and that ask for nothing all the same
 
+-- two flags of this command are given
+abbrev pub GivesBoth : (command first second : Text) → Met → Type 0
+GivesBoth command first second met = (rows : List Row) × (met ≡ Some (command, rows))
+    × (first_of first rows ≡ Some (codes "true")) × (first_of second rows ≡ Some (codes "true"))
+
+-- an option of this command is named, and a flag is given
+abbrev pub NamesAnd : (command option flag : Text) → Met → Type 0
+NamesAnd command option flag met = (rows : List Row) × (met ≡ Some (command, rows))
+    × IsTrue (is_some (first_of option rows)) × (first_of flag rows ≡ Some (codes "true"))
+
 -- two clients are asked for at once
 abbrev pub AsksTwoClients : Met → Type 0
-AsksTwoClients met = (rows : List Row) × (met ≡ Some (codes "poll", rows))
-    × (first_of (codes "public") rows ≡ Some (codes "true"))
-    × (first_of (codes "reader") rows ≡ Some (codes "true"))
+AsksTwoClients = GivesBoth (codes "poll") (codes "public") (codes "reader")
 
--- a client is given by its address, and by this flag too
-abbrev pub NamesClientAnd : Text → Met → Type 0
-NamesClientAnd flag met = (rows : List Row) × (met ≡ Some (codes "poll", rows))
-    × IsTrue (is_some (first_of (codes "client") rows))
-    × (first_of flag rows ≡ Some (codes "true"))
+-- two days of captures are asked for
+abbrev pub AsksTwoDemos : Met → Type 0
+AsksTwoDemos = GivesBoth (codes "format") (codes "demo") (codes "demo-day")
 
 -- a client is given by its address and by its name
 abbrev pub GivesClientTwice : Met → Type 0
 GivesClientTwice met =
-    NamesClientAnd (codes "public") met ⊎ NamesClientAnd (codes "reader") met
+    NamesAnd (codes "poll") (codes "client") (codes "public") met
+    ⊎ NamesAnd (codes "poll") (codes "client") (codes "reader") met
 
 -- a port and a serial line are named at once
 abbrev pub NamesTwoPlaces : Met → Type 0
@@ -279,9 +332,7 @@ NamesTwoPlaces met = (rows : List Row) × (met ≡ Some (codes "serve", rows))
 
 -- a serial line, which carries HDLC, is to carry the wrapper
 abbrev pub WrapsLine : Met → Type 0
-WrapsLine met = (rows : List Row) × (met ≡ Some (codes "serve", rows))
-    × IsTrue (is_some (first_of (codes "line") rows))
-    × (first_of (codes "wrapper") rows ≡ Some (codes "true"))
+WrapsLine = NamesAnd (codes "serve") (codes "line") (codes "wrapper")
 
 -- a wrapper port, which has two octets, is to be sent in four
 abbrev pub WidensPort : Met → Type 0
@@ -316,30 +367,51 @@ ExpectsInClear met = (command : Text) × (rows : List Row) × (met ≡ Some (com
 -- two are given and one is wanted, or one is given that needs another
 abbrev pub AsksBoth : Met → Type 0
 AsksBoth met = AsksTwoClients met ⊎ GivesClientTwice met ⊎ NamesTwoPlaces met ⊎ WrapsLine met
-    ⊎ WidensPort met ⊎ SizesMessages met ⊎ ShowsSecret met ⊎ ReadsIdleCounter met
+    ⊎ AsksTwoDemos met ⊎ WidensPort met ⊎ SizesMessages met ⊎ ShowsSecret met ⊎ ReadsIdleCounter met
     ⊎ ExpectsInClear met
 
--- the line of a place, unless it is the device of a serial line
-abbrev pub line_address : Option Text → Option Text
-line_address None = None
-line_address (Some place) = if is_device (line_of place) then None else Some (line_of place)
+-- what was found for this value of the command
+abbrev pub value_in : Text → Met → Option Text
+value_in name None = None
+value_in name (Some (command, rows)) = first_of name rows
 
--- the address that is named, to poll or to listen on
-abbrev pub address_in : Met → Option Text
-address_in None = None
-address_in (Some (name, rows)) =
-    if bytes_eq name (codes "poll") then line_address (first_of (codes "PLACE") rows)
-    else (if bytes_eq name (codes "serve") then first_of (codes "listen") rows else None)
-
--- that is invalid
+-- the address to listen on is invalid
 abbrev pub NamesNoAddress : Met → Type 0
-NamesNoAddress met = (text : Text) × (address_in met ≡ Some text) × (IsAddress text → ⊥)
+NamesNoAddress met = (text : Text) × (value_in (codes "listen") met ≡ Some text)
+    × (IsAddress text → ⊥)
+
+-- a meter is named by what is no place
+abbrev pub NamesNoPlace : Met → Type 0
+NamesNoPlace met = (text : Text) × (value_in (codes "PLACE") met ≡ Some text)
+    × (IsPlace text → ⊥)
+
+abbrev pub is_color : Text → Bool
+is_color text = bytes_eq text (codes "auto")
+    || (bytes_eq text (codes "always") || bytes_eq text (codes "never"))
+
+abbrev pub is_shell : Text → Bool
+is_shell text = bytes_eq text (codes "bash")
+    || (bytes_eq text (codes "zsh") || bytes_eq text (codes "fish"))
+
+-- when to color is said, and by none of the three words
+abbrev pub NamesNoColor : Met → Type 0
+NamesNoColor met = (text : Text) × (value_in (codes "color") met ≡ Some text)
+    × (is_color text ≡ false)
+
+-- completions are wanted for a shell that is none of the three
+abbrev pub NamesNoShell : Met → Type 0
+NamesNoShell met = (text : Text) × (value_in (codes "SHELL") met ≡ Some text)
+    × (is_shell text ≡ false)
+
+-- a value is invalid
+abbrev pub IsInvalid : Met → Type 0
+IsInvalid met = NamesNoAddress met ⊎ NamesNoPlace met ⊎ NamesNoColor met ⊎ NamesNoShell met
 
 -- neither is so
 abbrev pub IsClear : Met → Type 0
-IsClear met = (AsksBoth met → ⊥) × (NamesNoAddress met → ⊥)
+IsClear met = (AsksBoth met → ⊥) × (IsInvalid met → ⊥)
 
 -- one of them is, which the error says
 abbrev pub IsUnclear : Met → Error → Type 0
 IsUnclear met e = (AsksBoth met × (kind_of e ≡ ArgumentConflict))
-    ⊎ (NamesNoAddress met × (kind_of e ≡ InvalidValue))
+    ⊎ (IsInvalid met × (kind_of e ≡ InvalidValue))

@@ -1,6 +1,8 @@
 //! Addresses of a host and a port, and places, which may name a carrier.
-ghost use Rattle.std.specs.Prelude.{◌≡◌, ◌↔◌, ◌<◌, length, option_map, IsTrue};
-ghost use Rattle.dlms_words.specs.Addresses.{EndsHost, IsAddress, IsPort, carrier_of, is_device, line_of};
+ghost use Rattle.std.specs.Prelude.{◌≡◌, ◌↔◌, ◌<◌, length, option_map, is_some, IsTrue};
+ghost use Rattle.std.specs.List.{list_all, list_any};
+ghost use lib.Dec.{eqb};
+ghost use Rattle.dlms_words.specs.Addresses.{EndsHost, IsAddress, IsPlace, IsPort, carrier_of, is_bracketed, is_device, is_host, is_host_octet, line_of};
 
 use crate::numbers::number;
 
@@ -78,4 +80,60 @@ pub fn split_place(place: &str) -> Place<'_>
         },
         None => whole,
     }
+}
+
+/// Whether an octet may be in the name of a host.
+fn is_host_octet(octet: u8) -> bool
+    ensures { result ≡ is_host_octet octet }
+{
+    octet.is_ascii_alphanumeric() || octet == b'-' || octet == b'.' || octet == b'_'
+}
+
+/// Whether all octets may be in the name of a host.
+fn are_host_octets(text: &[u8]) -> bool
+    ensures { result ≡ list_all is_host_octet text.now }
+{
+    text.iter().all(|octet| is_host_octet(*octet))
+}
+
+/// Whether a text has a point in it.
+fn has_point(text: &[u8]) -> bool
+    ensures { result ≡ list_any (λ octet. eqb octet 46) text.now }
+{
+    text.iter().any(|octet| *octet == b'.')
+}
+
+/// Whether a text is an address in brackets.
+fn is_bracketed(text: &[u8]) -> bool
+    ensures { result ≡ is_bracketed text.now }
+{
+    match text {
+        [b'[', ..] => true,
+        _ => false,
+    }
+}
+
+/// Whether a line, after a carrier or without one, is a host alone.
+fn is_host(has_carrier: bool, line: &str) -> bool
+    ensures { result ≡ is_host has_carrier line.now }
+{
+    let octets = line.as_bytes();
+    line == "localhost"
+        || is_bracketed(octets)
+        || are_host_octets(octets) && (has_point(octets) || has_carrier && octets.len() > 0)
+}
+
+/// Whether a place names a carrier.
+fn names_carrier(place: &str) -> bool
+    ensures { result ≡ is_some (carrier_of place.now) }
+{
+    split_place(place).carrier.is_some()
+}
+
+/// Whether a text is a place where a meter may be: the device of a serial line, or a host, with a port or without one.
+pub fn is_place(place: &str) -> bool
+    ensures { IsTrue result ↔ IsPlace place.now }
+{
+    let line = split_place(place).line;
+    is_device(line.as_bytes()) || is_address(line.as_bytes()) || is_host(names_carrier(place), line)
 }

@@ -116,8 +116,8 @@ pub struct Argument {
     pub help: &'static str,
 }
 
-/// One argument.
-fn argument_for<'a>(alloc: Global, given: &Argument) -> Arg<'a>
+/// One argument, under no heading.
+fn plain_argument<'a>(alloc: Global, given: &Argument) -> Arg<'a>
     ensures rule { rule_of result ≡ rule_for given.now }
     ensures local { result.global ≡ false }
 {
@@ -134,31 +134,48 @@ fn argument_for<'a>(alloc: Global, given: &Argument) -> Arg<'a>
     }
 }
 
+/// One argument, under this heading of the help, if one is given.
+fn argument_for<'a>(alloc: Global, given: &Argument, heading: Option<&'static str>) -> Arg<'a>
+    ensures rule { rule_of result ≡ rule_for given.now }
+    ensures local { result.global ≡ false }
+{
+    let argument = plain_argument(alloc, given);
+    match heading {
+        Some(text) => argument.help_heading(text),
+        None => argument,
+    }
+}
+
 /// Arguments, one after another.
-fn arguments<'a>(alloc: Global, given: &[Argument]) -> Result<Vec<Arg<'a>>, AllocError>
+fn arguments<'a>(
+    alloc: Global,
+    given: &[Argument],
+    heading: Option<&'static str>,
+) -> Result<Vec<Arg<'a>>, AllocError>
     ensures rules { IfOk result
         (λ arguments. map rule_of arguments.items ≡ map rule_for given.now) }
     ensures local { IfOk result (λ arguments. AreLocal arguments.items) }
 {
     let mut arguments = Vec::new(alloc);
     for one in given {
-        arguments.push(argument_for(alloc, one))?;
+        arguments.push(argument_for(alloc, one, heading))?;
     }
     Ok(arguments)
 }
 
-/// The command with these arguments, one after another.
+/// The command with these arguments, one after another, under this heading of the help, if one is given.
 pub fn with_arguments<'a>(
     alloc: Global,
     command: Command<'a>,
     given: &[Argument],
+    heading: Option<&'static str>,
 ) -> Result<Command<'a>, AllocError>
     ensures shape { IfOk result (λ c. app_of c ≡ with_rules (app_of command.entry)
         (map rule_for given.now)) }
     ensures local { (fields_of command.entry).has_globals ≡ false
         → IfOk result (λ c. (fields_of c).has_globals ≡ false) }
 {
-    let arguments = arguments(alloc, given)?;
+    let arguments = arguments(alloc, given, heading)?;
     command.args(arguments)
 }
 

@@ -72,6 +72,22 @@ pub enum OutputFormat {
     Json,
 }
 
+/// When an explanation is colored: on a terminal, always, or never.
+#[derive(Clone, Copy, PartialEq, Eq)]
+pub enum ColorChoice {
+    Auto,
+    Always,
+    Never,
+}
+
+/// A shell that the program makes completions for.
+#[derive(Clone, Copy, PartialEq, Eq)]
+pub enum Shell {
+    Bash,
+    Zsh,
+    Fish,
+}
+
 /// The options of `format`.
 #[derive(Clone, Copy)]
 pub struct FormatOptions<'a> {
@@ -79,6 +95,8 @@ pub struct FormatOptions<'a> {
     pub file: &'a str,
     /// Whether the meter gets a day of captures.
     pub demo: bool,
+    /// Whether the meter gets the day of captures that ended at the last midnight (UTC) of the system's clock.
+    pub demo_day: bool,
     /// Whether a file that holds a meter is formatted all the same.
     pub force: bool,
 }
@@ -135,6 +153,9 @@ pub struct PollOptions<'a> {
     pub strict: bool,
     /// Only a meter whose objects show these texts is polled.
     pub expecting: Expecting<'a>,
+    /// Whether nothing is printed about rows that are left out, and the like.
+    pub quiet: bool,
+    pub format: OutputFormat,
 }
 
 /// The options of `collect`.
@@ -179,6 +200,10 @@ pub struct GetOptions<'a> {
 pub struct ListOptions<'a> {
     pub asking: Asking<'a>,
     pub format: OutputFormat,
+    /// Whether the attributes and methods are listed by their names, one a line.
+    pub long: bool,
+    /// Whether no progress is shown.
+    pub quiet: bool,
 }
 
 /// The options of `profile`.
@@ -221,6 +246,7 @@ pub struct SetOptions<'a> {
     pub value: &'a str,
     /// The class of its object; 0 if it is to be found.
     pub class: u32,
+    pub format: OutputFormat,
 }
 
 /// The options of `act`.
@@ -233,6 +259,7 @@ pub struct ActOptions<'a> {
     pub value: Option<&'a str>,
     /// The class of its object; 0 if it is to be found.
     pub class: u32,
+    pub format: OutputFormat,
 }
 
 /// The options of `explain`.
@@ -249,6 +276,9 @@ pub struct ExplainOptions<'a> {
     pub format: OutputFormat,
     /// The file with the keys that open ciphered APDUs.
     pub keys: Option<&'a str>,
+    pub color: ColorChoice,
+    /// Whether no progress is shown.
+    pub quiet: bool,
 }
 
 /// The options of `show`.
@@ -258,6 +288,7 @@ pub struct ShowOptions<'a> {
     pub file: &'a str,
     /// Whether the curve of the load profile is printed.
     pub plot: bool,
+    pub format: OutputFormat,
 }
 
 /// The options of `keys`.
@@ -276,8 +307,17 @@ pub struct KeysOptions<'a> {
 pub struct PlotOptions<'a> {
     /// The readings file.
     pub readings: &'a str,
-    /// Whether the curve is an SVG; otherwise it is text.
+    /// Whether the curve is an SVG; otherwise it is as `format` says. `format` comes first if it is JSON.
     pub svg: bool,
+    pub format: OutputFormat,
+    /// The name of the register whose curve is plotted; the first one that changes, if none is given.
+    pub register: Option<&'a str>,
+    /// The time of the first row, if one is given.
+    pub from: Option<&'a str>,
+    /// The time of the last row, if one is given.
+    pub to: Option<&'a str>,
+    /// Whether no warning is printed.
+    pub quiet: bool,
 }
 
 /// The work that the program is asked to do.
@@ -315,4 +355,10 @@ pub enum Job<'a> {
     Plot(PlotOptions<'a>),
     /// Makes or shows the file of frame counters that a file of settings names.
     Keys(KeysOptions<'a>),
+    /// Prints the names, codes and classes of objects that a word matches.
+    Names(&'a str),
+    /// Prints the manual page.
+    Man,
+    /// Prints the completions for a shell.
+    Completions(Shell),
 }

@@ -1,7 +1,7 @@
 //! The numbers of the arguments.
 
 ghost use Rattle.std.specs.Prelude.{◌≡◌};
-ghost use Rattle.dlms_words.specs.declared.words.TheConstants.{AHEAD, AT_ONCE, CLIENT, DEADLINE, IDLE, INACTIVITY, MOST, TICK, TURN};
+ghost use Rattle.dlms_words.specs.declared.defaults.TheConstants.{AHEAD, AT_ONCE, CLIENT, DEADLINE, IDLE, INACTIVITY, MOST, TICK, TURN};
 
 /// The numbers that clauses cite by name: the defaults in seconds, how many meters are polled at once, and for a meter that is asked
 /// the client's address and the octets of a value's encoding.

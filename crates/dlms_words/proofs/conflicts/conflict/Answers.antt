@@ -1,0 +1,35 @@
+use Rattle.std.proofs.Common.{◌≡◌, inl, inr, subst, Bool, false, true, IsTrue}
+use Rattle.dlms_words.proofs.conflicts.conflict.Goals as goal
+
+no_truth : (b : Bool) → b ≡ false → IsTrue b → ⊥
+no_truth b is_false is_true = let both : false ≡ true = subst (λ (x : Bool). x ≡ true) is_false is_true in cc both
+
+pub returns-clause-none : goal.returns-clause-none
+returns-clause-none c = λ both. elim both [
+  | inl it ↦ no_truth _ c.if-gives_both.false (c.gives_both.ensures.1 it)
+  | inr rest ↦ elim rest [
+    | inl it ↦ no_truth _ c.if-gives_client_twice.false (c.gives_client_twice.ensures.1 it)
+    | inr rest ↦ elim rest [
+      | inl it ↦ no_truth _ c.if-names_two_places.false (c.names_two_places.ensures.1 it)
+      | inr rest ↦ elim rest [
+        | inl it ↦ no_truth _ c.if-names_and.false (c.names_and.ensures.1 it)
+        | inr rest ↦ elim rest [
+          | inl it ↦ no_truth _ c.if-gives_both-2.false (c.gives_both-2.ensures.1 it)
+          | inr rest ↦ elim rest [
+            | inl it ↦ no_truth _ c.if-widens_port.false (c.widens_port.ensures.1 it)
+            | inr rest ↦ elim rest [
+              | inl it ↦ no_truth _ c.if-sizes_messages.false (c.sizes_messages.ensures.1 it)
+              | inr rest ↦ elim rest [
+                | inl it ↦ no_truth _ c.if-shows_secret.false (c.shows_secret.ensures.1 it)
+                | inr rest ↦ elim rest [
+                  | inl it ↦ no_truth _ c.if-reads_idle_counter.false (c.reads_idle_counter.ensures.1 it)
+                  | inr rest ↦ no_truth _ c.if-expects_in_clear.false (c.expects_in_clear.ensures.1 rest)
+                ]
+              ]
+            ]
+          ]
+        ]
+      ]
+    ]
+  ]
+]

@@ -1,0 +1,19 @@
+use Rattle.std.proofs.Common.{refl, subst}
+use Rattle.std.specs.Prelude.{Option}
+use Rattle.clap.specs.Words.{Text}
+use Rattle.dlms_words.specs.Words.{IsSaid}
+use Rattle.dlms_words.proofs.requests.list_job.Goals as goal
+
+pub returns : goal.returns
+returns c = λ rows met. (
+  rows,
+  refl,
+  c.asking.ensures rows met,
+  (
+    c.is_given-json.result,
+    subst (λ (said : Option Text). IsSaid said c.is_given-json.result) (c.value_for.ensures rows met) c.is_given-json.ensures,
+    c.output_format.ensures,
+  ),
+  subst (λ (said : Option Text). IsSaid said c.is_given-long.result) (c.value_for-2.ensures rows met) c.is_given-long.ensures,
+  subst (λ (said : Option Text). IsSaid said c.is_given-quiet.result) (c.value_for-3.ensures rows met) c.is_given-quiet.ensures,
+)
