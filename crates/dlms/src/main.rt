@@ -3,6 +3,7 @@
 
 use dlms_command::{Fault, Terminals, finish, run};
 use std::alloc::{AllocError, Allocator};
+use std::env::VarError;
 use std::io::IsTerminal;
 use std::process::ExitCode;
 use std::rt::Env;
@@ -31,12 +32,26 @@ fn slices_of<'a, A: Allocator>(
     Ok(slices)
 }
 
+/// Whether the environment says that no colors are wanted (<https://no-color.org>). Out of memory is taken so too.
+fn is_plain<R: Env + AllocGlobal>(rt: &R) -> bool {
+    match env::var(rt, "NO_COLOR") {
+        Ok(value) => {
+            let is_plain = !value.is_empty();
+            drop(value);
+            is_plain
+        }
+        Err(VarError::OutOfMemory) => true,
+        Err(_) => false,
+    }
+}
+
 /// Carries out the job of the arguments, on the standard streams.
 fn status_by(rt: &HostRuntime, words: &[&str]) -> io::Result<u8> {
     let mut errors = rt.stderr();
     let terminals = Terminals {
         output: rt.stdout().is_terminal(),
         errors: errors.is_terminal(),
+        is_plain: is_plain(rt),
     };
     let mut output = io::writer(rt);
     run(
@@ -51,7 +66,7 @@ fn status_by(rt: &HostRuntime, words: &[&str]) -> io::Result<u8> {
 
 /// Says that memory is wanting.
 fn status_without_memory(rt: &HostRuntime) -> io::Result<u8> {
-    finish(Err(Fault::MEMORY), &mut rt.stderr())
+    finish(rt.alloc(), false, Err(Fault::MEMORY), &mut rt.stderr())
 }
 
 /// Does what these words ask for.

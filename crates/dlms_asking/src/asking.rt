@@ -9,7 +9,8 @@ use crate::given::value_given;
 use crate::profile::{ProfileRequest, request_of};
 use crate::requests::{MeterSession, read_name};
 use crate::route::route_of;
-use crate::security::{Counters, Protection, protection_of};
+use crate::security::{heed_counter, keep_counter, parted, protection_for};
+use crate::setting::{Given, given_in};
 use arrayvec::ArrayVec;
 use dlms_call::{CallFault, ClientEnd, begin};
 use dlms_client::{Plan, Route};
@@ -17,12 +18,12 @@ use dlms_data::Data;
 use dlms_ends::End;
 use dlms_faults::Fault;
 use dlms_frame::Client;
+use dlms_guards::Protection;
 use dlms_headend::PollFault;
 use dlms_lines::{Dialling, FieldFault, MeterLine};
 use dlms_polling::{HostPollInputs, PollInputs, secret_of};
-use dlms_printing::{Following, Progress, Showing, Unfollowed};
+use dlms_printing::{Following, ListForm, Progress, Showing, Unfollowed, put_fault};
 use dlms_secured::{Guard, SecuredFault};
-use dlms_security::UnprotectFault;
 use dlms_words::{
     ActOptions, Asking, ClockOptions, GetOptions, ListOptions, MeterOptions, OutputFormat,
     ProfileOptions, SetOptions, ValueFormat,
@@ -40,16 +41,13 @@ use std::time::Clock;
 const SIZE: u16 = 1_024;
 
 /// The frame counters that are reserved for an association.
-pub const FEW_COUNTERS: u32 = 1_000;
+const FEW_COUNTERS: u32 = 1_000;
 
 /// The frame counters for a further name: its value in a few blocks, its scaler, and the answer's confirmations.
 const NAME_COUNTERS: u32 = 16;
 
 /// The octets of a value in a block, for which further counters are reserved.
-pub const LEAST_BLOCK: u32 = 512;
-
-/// A message that is not newer than those of earlier associations.
-pub const STALE: SecuredFault = SecuredFault::Message(UnprotectFault::OldCounter);
+const LEAST_BLOCK: u32 = 512;
 
 /// For how many seconds the addresses of a place are tried.
 const CONNECT_SECONDS: u32 = 60;
@@ -63,17 +61,19 @@ pub enum Request<'a> {
         format: ValueFormat,
     },
     List {
-        format: OutputFormat,
+        form: ListForm,
     },
     Set {
         name: &'a str,
-        value: Data<Global>,
+        value: Given<'a>,
         class: u16,
+        format: OutputFormat,
     },
     Act {
         name: &'a str,
         value: Option<Data<Global>>,
         class: u16,
+        format: OutputFormat,
     },
     Profile(ProfileRequest<'a>),
     Clock(ClockRequest),
@@ -119,9 +119,19 @@ fn run_request<'a, H: Clock, S: End, W: Write, P: Following>(
             class,
             format,
         } => talk.get_all(names, class, format, output),
-        Request::List { format } => talk.list_all(format, output),
-        Request::Set { name, value, class } => talk.set_one(name, value, class, output),
-        Request::Act { name, value, class } => talk.act_one(name, value, class, output),
+        Request::List { form } => talk.list_all(form, output),
+        Request::Set {
+            name,
+            value,
+            class,
+            format,
+        } => talk.set_one(name, value, class, format, output),
+        Request::Act {
+            name,
+            value,
+            class,
+            format,
+        } => talk.act_one(name, value, class, format, output),
         Request::Profile(profile) => talk.profile_one(profile, output, progress),
         Request::Clock(clock) => talk.clock_one(host, clock, output),
     }
@@ -165,47 +175,14 @@ pub fn open_association<'a, S: End>(
     }
 }
 
-/// The guard and the counters of a protection.
-fn parted(protection: Option<Protection<'_>>) -> (Option<Box<Guard>>, Option<Box<Counters<'_>>>) {
-    match protection {
-        Some(Protection { guard, counters }) => (Some(guard), Some(counters)),
-        None => (None, None),
-    }
-}
-
-/// Keeps the meter's last counter, if the association is protected.
-fn keep<'a>(
-    counters: &mut Option<Box<Counters<'a>>>,
-    head: &ClientEnd<Global>,
-) -> Result<(), Fault<'a>> {
-    match counters {
-        Some(counters) => counters.keep(head.peer(), head.last_accepted()),
-        None => Ok(()),
-    }
-}
-
-/// Refuses an association whose first message is not newer than all of earlier ones, and keeps its counter.
-fn heed<'a>(
-    place: &'a str,
-    counters: &mut Option<Box<Counters<'a>>>,
-    head: &ClientEnd<Global>,
-) -> Result<(), Fault<'a>> {
-    match counters {
-        Some(counters) if !counters.is_fresh(head.peer(), head.last_accepted()) => {
-            Err(Fault::Security(place, STALE))
-        }
-        counters => keep(counters, head),
-    }
-}
-
-/// An association over a line, the request in it, and its end, whatever came of the request. The request is taken once the
-/// association is open.
+/// An association over a line, the request in it, and its end, also if the request failed. The request is taken once the association
+/// is open.
 #[inline(never)]
 fn exchange<'a, H: Clock + AllocGlobal, S: End, W: Write, P: Following>(
     host: &H,
     asking: &Asking<'a>,
     plan: Plan,
-    protection: Option<Protection<'a>>,
+    protection: Option<Protection>,
     line: &mut S,
     waiting: &mut Option<Request<'a>>,
     output: &mut W,
@@ -219,9 +196,7 @@ fn exchange<'a, H: Clock + AllocGlobal, S: End, W: Write, P: Following>(
         Ok(head) => head,
         Err(fault) => return Err(fault),
     };
-    if let Err(fault) = heed(place, &mut counters, &head) {
-        return Err(fault);
-    }
+    heed_counter(alloc, &asking.meter, &mut counters, &head)?;
     let Some(request) = waiting.take() else {
         return Ok(());
     };
@@ -235,7 +210,7 @@ fn exchange<'a, H: Clock + AllocGlobal, S: End, W: Write, P: Following>(
     };
     let outcome = run_request(host, &mut talk, request, output, progress);
     talk.end();
-    let kept = keep(&mut counters, &talk.head);
+    let kept = keep_counter(&asking.meter, &mut counters, &talk.head);
     outcome?;
     kept
 }
@@ -333,15 +308,16 @@ fn protection<'a, H: Net + Files<File = File> + Clock + AllocGlobal + RandomSour
     host: &H,
     asking: &Asking<'a>,
     waiting: &Option<Request<'a>>,
-) -> Result<Option<Protection<'a>>, Fault<'a>> {
-    let (Some(file), Some(request)) = (asking.meter.security, waiting) else {
+) -> Result<Option<Protection>, Fault<'a>> {
+    let (Some(_), Some(request)) = (asking.meter.security, waiting) else {
         return Ok(None);
     };
     let last = match asking.meter.counter_from {
         Some(name) => Some(last_counter(host, &asking.meter, name)?),
         None => None,
     };
-    let protection = protection_of(host, file, last, counters_for(asking, request))?;
+    let count = counters_for(asking, request);
+    let protection = protection_for(host, &asking.meter, last, count)?;
     Ok(Some(protection))
 }
 
@@ -403,8 +379,18 @@ impl<H: Net + Files<File = File> + Clock + AllocGlobal> Failing for MeterLine<'_
     }
 }
 
+/// Whether a request prints values as JSON, and so reports the faults of single names as JSON.
+fn prints_json(waiting: &Option<Request<'_>>) -> bool {
+    match waiting {
+        Some(Request::Get { format, .. }) => *format == ValueFormat::Json,
+        _ => false,
+    }
+}
+
 /// The result of a request in which these names failed: its last fault, after the others went to standard error.
 fn with_refused<'a, E: Write>(
+    alloc: Global,
+    is_json: bool,
     refused: Vec<Fault<'a>>,
     talked: Result<(), Fault<'a>>,
     errors: &mut E,
@@ -415,7 +401,7 @@ fn with_refused<'a, E: Write>(
         Err(fault) => Some(fault),
     };
     for fault in &refused {
-        let _written = writeln!(errors, "dlms: {fault}");
+        let _written = put_fault(alloc, fault, is_json, errors);
     }
     drop(refused);
     match last {
@@ -436,7 +422,7 @@ fn ask_over<
     host: &H,
     asking: &Asking<'a>,
     plan: Plan,
-    protection: Option<Protection<'a>>,
+    protection: Option<Protection>,
     line: L,
     waiting: &mut Option<Request<'a>>,
     output: &mut W,
@@ -480,7 +466,7 @@ fn ask_with_progress<
     host: &H,
     asking: &Asking<'a>,
     plan: Plan,
-    protection: Option<Protection<'a>>,
+    protection: Option<Protection>,
     line: L,
     waiting: &mut Option<Request<'a>>,
     output: &mut W,
@@ -519,6 +505,7 @@ fn ask_once<
     errors: &mut E,
 ) -> Result<(), Fault<'a>> {
     let Call { line, plan } = call;
+    let is_json = prints_json(waiting);
     let protection = protection(host, asking, waiting)?;
     let line = match line_to(host, &asking.meter, line) {
         Ok(line) => line,
@@ -554,7 +541,7 @@ fn ask_once<
             &mut refused,
         )
     };
-    with_refused(refused, told, errors)
+    with_refused(host.alloc(), is_json, refused, told, errors)
 }
 
 /// Whether the meter at this place did not answer, or its connection was refused or lost.
@@ -658,9 +645,12 @@ pub fn ask_to_list<
     W: Write,
     E: Write,
 >(host: &H, options: &ListOptions<'a>, output: &mut W, errors: &mut E) -> Result<(), Fault<'a>> {
-    let request = Request::List {
-        format: options.format,
+    let form = match (options.format, options.long) {
+        (OutputFormat::Json, _) => ListForm::Json,
+        (OutputFormat::Text, true) => ListForm::Long,
+        (OutputFormat::Text, false) => ListForm::Columns,
     };
+    let request = Request::List { form };
     ask(host, &options.asking, request, output, errors)
 }
 
@@ -705,8 +695,9 @@ pub fn ask_to_set<
 >(host: &H, options: &SetOptions<'a>, output: &mut W, errors: &mut E) -> Result<(), Fault<'a>> {
     let request = Request::Set {
         name: options.name,
-        value: value_given(host, options.value)?,
+        value: given_in(host, options.value)?,
         class: class_number(options.class),
+        format: options.format,
     };
     ask(host, &options.asking, request, output, errors)
 }
@@ -727,6 +718,7 @@ pub fn ask_to_act<
         name: options.name,
         value,
         class: class_number(options.class),
+        format: options.format,
     };
     ask(host, &options.asking, request, output, errors)
 }

@@ -1,10 +1,11 @@
 //! The guards of a protected poll, by the file of settings.
 
-use crate::asking::{FEW_COUNTERS, LEAST_BLOCK, STALE, is_silence};
+use crate::asking::is_silence;
 use crate::counter::last_counter;
-use crate::security::{Counters, Protection, protection_of};
 use dlms_ends::RunFault;
 use dlms_faults::Fault;
+use dlms_guards::{GuardFault, POLL_COUNTERS, Protection, heed, protection_of};
+use dlms_keys::StoredCounters;
 use dlms_lines::{FieldFault, Timer};
 use dlms_polling::{Accepted, Guards, HostPollInputs, MOST_RETRIES, PollInputs};
 use dlms_secured::Guard;
@@ -16,19 +17,17 @@ use std::random::RandomSource;
 use std::rt::Files;
 use std::time::Clock;
 
-/// The most octets that may arrive in a poll (`dlms_ends`).
-const MOST_OCTETS: u32 = 2_097_152;
-
 /// The guards of a poll. Each has a random challenge, and frame counters that are reserved for it before it is used.
 #[derive(Drop)]
 pub struct PollGuards<'a, 'h, H> {
     host: &'h H,
+    place: &'a str,
     /// The file of settings; none for a poll in clear.
     file: Option<&'a str>,
     /// The last counter that the meter accepted from the client, if it was read.
     last: Option<u32>,
     /// The counters of the guard that was given last, until what it has accepted is kept.
-    counters: Option<Box<Counters<'a>>>,
+    counters: Option<Box<StoredCounters>>,
     /// Why the last guard was not given, or what it had accepted not kept.
     fault: Option<Fault<'a>>,
 }
@@ -46,15 +45,22 @@ impl<'a, H> PollGuards<'a, '_, H> {
 impl<'a, H: Files<File = File> + AllocGlobal + RandomSource> PollGuards<'a, '_, H> {
     /// What protects another association.
     #[inline(never)]
-    fn protection(&self) -> Result<Option<Protection<'a>>, Fault<'a>> {
+    fn protection(&self) -> Result<Option<Protection>, GuardFault> {
         let Some(file) = self.file else {
             return Ok(None);
         };
-        let count = FEW_COUNTERS.saturating_add(MOST_OCTETS / LEAST_BLOCK);
-        match protection_of(self.host, file, self.last, count) {
+        match protection_of(self.host, file, self.last, POLL_COUNTERS) {
             Ok(protection) => Ok(Some(protection)),
             Err(fault) => Err(fault),
         }
+    }
+
+    /// Keeps why there is no guard, or why a counter was not kept: the poll itself ends as one whose line failed.
+    fn refuse(&mut self, fault: GuardFault) -> RunFault {
+        let file = self.file.unwrap_or("");
+        let fault = Fault::of_guard(self.host.alloc(), self.place, file, fault);
+        self.fault = Some(fault);
+        RunFault::Io
     }
 }
 
@@ -68,10 +74,7 @@ impl<H: Files<File = File> + AllocGlobal + RandomSource> Guards for PollGuards<'
                 Ok(guard)
             }
             Ok(None) => Err(RunFault::Io),
-            Err(fault) => {
-                self.fault = Some(fault);
-                Err(RunFault::Io)
-            }
+            Err(fault) => Err(self.refuse(fault)),
         }
     }
 
@@ -80,18 +83,16 @@ impl<H: Files<File = File> + AllocGlobal + RandomSource> Guards for PollGuards<'
         let Some(mut counters) = self.counters.take() else {
             return Ok(());
         };
-        if !counters.is_fresh(accepted.title, accepted.oldest) {
-            drop(counters);
-            return Err(RunFault::Insecure(STALE));
-        }
-        let kept = counters.keep(accepted.title, accepted.latest);
+        let kept = heed(
+            &mut counters,
+            accepted.title,
+            accepted.oldest,
+            accepted.latest,
+        );
         drop(counters);
         match kept {
             Ok(()) => Ok(()),
-            Err(fault) => {
-                self.fault = Some(fault);
-                Err(RunFault::Io)
-            }
+            Err(fault) => Err(self.refuse(fault)),
         }
     }
 }
@@ -128,7 +129,7 @@ fn last_for_poll<'a, H: Net + Files<File = File> + Clock + AllocGlobal>(
         }
         inputs.pause();
         if passed(inputs.seconds()) >= seconds {
-            return Err(Fault::Late(place, seconds));
+            return Err(Fault::Overdue(place, seconds));
         }
         told = last_counter(host, &options.meter, name);
     }
@@ -145,7 +146,7 @@ fn read_in_time<'a>(
     let counter = told?;
     let left = seconds.saturating_sub(passed);
     if left == 0 {
-        return Err(Fault::Late(place, seconds));
+        return Err(Fault::Overdue(place, seconds));
     }
     Ok((Some(counter), left))
 }
@@ -158,6 +159,7 @@ pub fn guards_of<'a, 'h, H: Net + Files<File = File> + Clock + AllocGlobal>(
     let (last, left) = last_for_poll(host, options)?;
     let guards = PollGuards {
         host,
+        place: options.meter.place,
         file: options.meter.security,
         last,
         counters: None,

@@ -2,8 +2,7 @@
 
 use dlms_faults::Fault;
 use dlms_keys::{
-    CountersFault, FileFault, Settings, Stations, counters_path, make_counters, open_counters,
-    read_settings, read_stations,
+    Settings, Stations, counters_path, make_counters, open_counters, read_settings, read_stations,
 };
 use dlms_security::{Form, Policy};
 use dlms_words::KeysOptions;
@@ -39,14 +38,10 @@ fn write_octets<W: Write>(output: &mut W, octets: &[u8]) -> io::Result<()> {
 
 /// The settings of a file.
 #[inline(never)]
-pub fn settings_of<'a, H: Files + AllocGlobal>(
-    host: &H,
-    file: &'a str,
-) -> Result<Settings, Fault<'a>> {
+fn settings_of<'a, H: Files + AllocGlobal>(host: &H, file: &'a str) -> Result<Settings, Fault<'a>> {
     match read_settings(host, file) {
         Ok(settings) => Ok(settings),
-        Err(FileFault::System(error)) => Err(Fault::of_system(host.alloc(), file, &error)),
-        Err(fault) => Err(Fault::Keys(file, fault)),
+        Err(fault) => Err(Fault::of_keys(host.alloc(), file, fault)),
     }
 }
 
@@ -58,16 +53,7 @@ pub fn stations_of<'a, H: Files + AllocGlobal>(
 ) -> Result<Stations, Fault<'a>> {
     match read_stations(host, file) {
         Ok(stations) => Ok(stations),
-        Err(FileFault::System(error)) => Err(Fault::of_system(host.alloc(), file, &error)),
-        Err(fault) => Err(Fault::Keys(file, fault)),
-    }
-}
-
-/// The fault of the file of counters that a file of settings names.
-pub fn of_counters<'a, H: AllocGlobal>(host: &H, file: &'a str, fault: CountersFault) -> Fault<'a> {
-    match fault {
-        CountersFault::System(error) => Fault::of_counters(host.alloc(), file, &error),
-        fault => Fault::Counters(file, fault),
+        Err(fault) => Err(Fault::of_keys(host.alloc(), file, fault)),
     }
 }
 
@@ -88,7 +74,7 @@ fn make<'a, H: Files<File = File> + AllocGlobal, W: Write>(
 ) -> Result<(), Fault<'a>> {
     match make_counters(host, path.as_str(), settings, options.first) {
         Ok(counters) => drop(counters),
-        Err(fault) => return Err(of_counters(host, options.file, fault)),
+        Err(fault) => return Err(Fault::of_counters_file(host.alloc(), options.file, fault)),
     }
     match report_new(output, path, options.first) {
         Ok(()) => Ok(()),
@@ -130,7 +116,7 @@ fn check<'a, H: Files<File = File> + AllocGlobal, W: Write>(
 ) -> Result<(), Fault<'a>> {
     let reserved = match open_counters(host, path.as_str(), settings) {
         Ok(counters) => counters.reserved(),
-        Err(fault) => return Err(of_counters(host, options.file, fault)),
+        Err(fault) => return Err(Fault::of_counters_file(host.alloc(), options.file, fault)),
     };
     match report(output, settings, path, reserved) {
         Ok(()) => Ok(()),

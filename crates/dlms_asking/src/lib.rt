@@ -2,6 +2,7 @@
 #![tactic(auto)]
 
 mod asking;
+mod changes;
 mod clock;
 mod counter;
 mod explained_messages;
@@ -13,8 +14,10 @@ mod profile;
 mod requests;
 mod route;
 mod security;
+mod setting;
 
 pub use asking::{ask_for_clock, ask_for_profile, ask_to_act, ask_to_get, ask_to_list, ask_to_set};
 pub use guards::{PollGuards, guards_of};
 pub use keys::{run_keys, stations_of};
+pub use profile::{LAST_OF_DAY, MIDNIGHT, second_in};
 pub use route::{PollLine, poll_line, poll_secret, public_route};

@@ -30,9 +30,9 @@ const ENTRIES_IN_USE: u8 = 7;
 const OPEN_DEVIATION: u8 = 0x80;
 
 /// The first and the last second of a day.
-const MIDNIGHT: &str = "00:00:00";
+pub const MIDNIGHT: &str = "00:00:00";
 
-const LAST_OF_DAY: &str = "23:59:59";
+pub const LAST_OF_DAY: &str = "23:59:59";
 
 /// From one time of the meter's clock to another, both included, as date-times.
 #[derive(Clone, Copy)]
@@ -75,8 +75,9 @@ fn time_of(text: &str) -> Option<(u8, u8, u8)> {
     Some((octet_of(hour)?, octet_of(minute)?, octet_of(second)?))
 }
 
-/// The second of the meter's clock that a text names; of a date alone this time of the day.
-fn second_in(text: &str, time: &str) -> Option<u32> {
+/// The second of a meter's clock, counted from 2000-01-01 00:00:00, that a text names, as `2026-01-31T12:00:00`; of a date alone
+/// this time of the day.
+pub fn second_in(text: &str, time: &str) -> Option<u32> {
     let (date, time) = match text.split_once('T') {
         Some((date, time)) => (date, time),
         None => (text, time),
@@ -311,6 +312,7 @@ impl<'a, S: End> MeterSession<'a, '_, S> {
         let period = self.period(request.name, code)?;
         let part = self.part(request, code, clock_among(shapes))?;
         let table = Table {
+            code,
             shapes,
             period,
             raw: request.raw,

@@ -4,14 +4,14 @@ ghost use Rattle.std.specs.Prelude.{◌≤◌, ◌<◌, ◌+◌, ◌≡◌, ◌�
 ghost use Rattle.dlms_data.specs.declared.date_time.TheConstants.{LAST_SECOND};
 ghost use Rattle.dlms_asking.specs.declared.requests.TheConstants.{BEGINNING};
 
-use dlms_call::{CallFault, ClientEnd, act, end, get, set};
+use dlms_call::{CallFault, ClientEnd, end, get, set};
 use dlms_client::Answer;
 use dlms_data::{Data, Descriptor, LAST_SECOND};
 use dlms_ends::End;
 use dlms_faults::Fault;
-use dlms_printing::{Teller, class_named, put_clock, put_line};
-use dlms_text::{Front, Name, ValueFault, front_of, name_of, value_of};
-use dlms_words::{OutputFormat, ValueFormat};
+use dlms_printing::{ListForm, Teller, class_named};
+use dlms_text::{Front, Name, ValueFault, front_of, value_of, written_name};
+use dlms_words::ValueFormat;
 use std::alloc::Global;
 use std::io::Write;
 
@@ -97,7 +97,7 @@ pub struct MeterSession<'a, 's, S: End> {
 
 /// The name that a text writes.
 pub fn read_name(text: &str) -> Result<Name, Fault<'_>> {
-    match name_of(text) {
+    match written_name(text) {
         Some(name) => Ok(name),
         None => Err(Fault::Name(text)),
     }
@@ -168,7 +168,7 @@ impl<'a, S: End> MeterSession<'a, '_, S> {
     }
 
     /// A copy of the encoding that came last.
-    fn copy_value(&self) -> Result<Vec<u8>, Fault<'a>> {
+    pub fn copy_value(&self) -> Result<Vec<u8>, Fault<'a>> {
         Ok(Vec::from_slice(self.alloc, self.head.value())?)
     }
 
@@ -381,24 +381,20 @@ impl<'a, S: End> MeterSession<'a, '_, S> {
 
     /// Prints the object list.
     #[inline(never)]
-    pub fn list_all<W: Write>(
-        &mut self,
-        format: OutputFormat,
-        output: &mut W,
-    ) -> Result<(), Fault<'a>> {
+    pub fn list_all<W: Write>(&mut self, form: ListForm, output: &mut W) -> Result<(), Fault<'a>> {
         self.fetch_list()?;
         let mut teller = Teller::new(self.alloc, self.place, output);
-        teller.put_objects(self.head.value(), format)
+        teller.put_objects(self.head.value(), form)
     }
 
     /// The attribute that a text names.
-    fn attribute_said(&mut self, said: &'a str, class: u16) -> Result<Descriptor, Fault<'a>> {
+    pub fn attribute_said(&mut self, said: &'a str, class: u16) -> Result<Descriptor, Fault<'a>> {
         let name = read_name(said)?;
         self.attribute_of(said, name, class)
     }
 
     /// The method that a text names.
-    fn method_said(&mut self, said: &'a str, class: u16) -> Result<Descriptor, Fault<'a>> {
+    pub fn method_said(&mut self, said: &'a str, class: u16) -> Result<Descriptor, Fault<'a>> {
         let name = read_name(said)?;
         if name.number.is_none() {
             return Err(Fault::Name(said));
@@ -407,7 +403,7 @@ impl<'a, S: End> MeterSession<'a, '_, S> {
     }
 
     /// The octets that a clock shows, or none if the meter does not give them. An object that is not a clock is not read.
-    fn clock(
+    pub fn clock(
         &mut self,
         said: &'a str,
         clock: Option<Descriptor>,
@@ -428,21 +424,6 @@ impl<'a, S: End> MeterSession<'a, '_, S> {
         }
     }
 
-    /// Prints what a clock showed before it was changed, and what it shows now; nothing for any other object.
-    fn put_clock<W: Write>(
-        &mut self,
-        said: &'a str,
-        clock: Option<Descriptor>,
-        before: Option<[u8; 12]>,
-        output: &mut W,
-    ) -> Result<(), Fault<'a>> {
-        let Some(of) = clock else {
-            return Ok(());
-        };
-        let after = self.clock(said, clock)?;
-        put_clock(self.alloc, output, of.name, before, after)
-    }
-
     /// Sets an attribute.
     pub fn set_to(
         &mut self,
@@ -454,116 +435,9 @@ impl<'a, S: End> MeterSession<'a, '_, S> {
         self.judge(said, false, answer)
     }
 
-    /// The attribute to be set, and what it shows before that if it belongs to a clock.
-    fn before_set(
-        &mut self,
-        said: &'a str,
-        class: u16,
-    ) -> Result<(Descriptor, Option<[u8; 12]>), Fault<'a>> {
-        let attribute = self.attribute_said(said, class)?;
-        let before = self.clock(said, clock_set_by(attribute))?;
-        Ok((attribute, before))
-    }
-
-    /// The method to be called, and what its clock shows before that if it is a clock's method.
-    fn before_call(
-        &mut self,
-        said: &'a str,
-        class: u16,
-    ) -> Result<(Descriptor, Option<[u8; 12]>), Fault<'a>> {
-        let method = self.method_said(said, class)?;
-        let before = self.clock(said, clock_called_by(method))?;
-        Ok((method, before))
-    }
-
-    /// Sets an attribute; of a clock prints what it showed before and shows now.
-    #[inline(never)]
-    pub fn set_one<W: Write>(
-        &mut self,
-        said: &'a str,
-        value: Data<Global>,
-        class: u16,
-        output: &mut W,
-    ) -> Result<(), Fault<'a>> {
-        let (attribute, before) = match self.before_set(said, class) {
-            Ok(found) => found,
-            Err(fault) => {
-                drop(value);
-                return Err(fault);
-            }
-        };
-        self.set_to(said, attribute, value)?;
-        put_line(output, "set ", said)?;
-        self.put_clock(said, clock_set_by(attribute), before, output)
-    }
-
-    /// Calls a method.
-    fn call(
-        &mut self,
-        said: &'a str,
-        method: Descriptor,
-        value: Option<Data<Global>>,
-    ) -> Result<(), Fault<'a>> {
-        let answer = act(self.line, &mut self.head, method, value);
-        self.judge(said, true, answer)
-    }
-
-    /// Calls a method, and prints what it returns; of a clock prints what it showed before and shows now.
-    #[inline(never)]
-    pub fn act_one<W: Write>(
-        &mut self,
-        said: &'a str,
-        value: Option<Data<Global>>,
-        class: u16,
-        output: &mut W,
-    ) -> Result<(), Fault<'a>> {
-        let (method, before) = match self.before_call(said, class) {
-            Ok(found) => found,
-            Err(fault) => {
-                drop(value);
-                return Err(fault);
-            }
-        };
-        self.call(said, method, value)?;
-        put_line(output, "called ", said)?;
-        self.put_returned(output)?;
-        self.put_clock(said, clock_called_by(method), before, output)
-    }
-
-    /// Prints what a method returned, if it is a value.
-    fn put_returned<W: Write>(&self, output: &mut W) -> Result<(), Fault<'a>> {
-        let value = self.head.value();
-        if value.is_empty() {
-            return Ok(());
-        }
-        let mut teller = Teller::new(self.alloc, self.place, output);
-        teller.put_words(value)
-    }
-
     /// Ends the association, and the link.
     pub fn end(&mut self) {
         let _ended = end(self.line, &mut self.head);
-    }
-}
-
-/// The clock that a SET of this attribute changes, if any.
-fn clock_set_by(attribute: Descriptor) -> Option<Descriptor> {
-    if attribute.class == CLOCK && attribute.id == SECOND {
-        Some(attribute)
-    } else {
-        None
-    }
-}
-
-/// The clock that a call of this method changes, if any.
-fn clock_called_by(method: Descriptor) -> Option<Descriptor> {
-    if method.class == CLOCK {
-        Some(Descriptor {
-            id: SECOND,
-            ..method
-        })
-    } else {
-        None
     }
 }
 

@@ -2,7 +2,7 @@
 
 use dlms_faults::Fault;
 use dlms_identity::Expected;
-use dlms_text::name_of;
+use dlms_text::written_name;
 use dlms_words::Expecting;
 use std::alloc::Global;
 
@@ -14,7 +14,7 @@ fn expected_in(text: &str) -> Result<Expected<'_>, Fault<'_>> {
     let Some((said, shown)) = text.split_once('=') else {
         return Err(Fault::Expect(text));
     };
-    match name_of(said) {
+    match written_name(said) {
         Some(name) if name.number.is_none() => Ok(Expected {
             name: name.code,
             text: shown,

@@ -1,34 +1,24 @@
 //! What the program does for its arguments, over any three streams.
 #![tactic(auto)]
 
-ghost use Rattle.std.specs.Prelude.{◌≡◌, ◌≢◌, ◌⊎◌, [], map, IfOk, IfSome, MatchResult, is_some, true};
-ghost use Rattle.dlms_carrier.specs.Any.{IsRoute};
+ghost use Rattle.std.specs.Prelude.{◌≡◌, ◌≢◌, ◌⊎◌, [], map, IfOk, MatchResult, is_some, true};
 ghost use Rattle.clap.specs.Words.{fault_of, subcommand_of};
 ghost use Rattle.dlms_words.specs.Grammar.{dlms};
-ghost use Rattle.dlms_words.specs.Words.{AsksBoth, IsClear, NamesNoAddress};
+ghost use Rattle.dlms_words.specs.Words.{AsksBoth, IsClear, IsInvalid};
 
 use clap::error::ErrorKind;
 use dlms_asking::{
-    PollGuards, PollLine, ask_for_clock, ask_for_profile, ask_to_act, ask_to_get, ask_to_list,
-    ask_to_set, guards_of, poll_line, poll_secret, public_route, run_keys, stations_of,
+    ask_for_clock, ask_for_profile, ask_to_act, ask_to_get, ask_to_list, ask_to_set, run_keys,
 };
-use dlms_explain::{ExplainFault, Form as ExplainForm, Layout, explain_with};
 use dlms_filing::FilePlace;
 use dlms_loopback::{loopback, sockets};
 use dlms_meter::Meter;
 use dlms_pages::{FilePages, MemoryPages, Pages};
-use dlms_plot::{Form, plot_readings};
-use dlms_polling::{MOST_RETRIES, PollSetup, Polling, poll};
-use dlms_printing::Showing;
+use dlms_printing::put_fault;
 use dlms_program::{Buffered, Sink, Source, replay};
-use dlms_security::{NoKeys, Opener};
 use dlms_serving::{Carrier, Serving, Times, serve, serve_line};
-use dlms_show::{Curve, ShowFault, show_file};
 use dlms_store::{AddFault, OpenFault, PAGES};
-use dlms_words::{
-    ExplainOptions, FormatOptions, Job, LoopbackOptions, OutputFormat, PlotOptions, PollOptions,
-    ServeOptions, ShowOptions, job,
-};
+use dlms_words::{FormatOptions, Job, LoopbackOptions, ServeOptions, job};
 use std::alloc::Global;
 use std::cell::RefCell;
 use std::fs::File;
@@ -43,16 +33,22 @@ use std::{fs, io};
 mod demo;
 mod expected;
 mod introduced;
+mod looking;
 mod meters;
+mod named;
 mod occupant;
+mod outcome;
+mod polled;
 mod streams;
 mod watched;
 
 pub use dlms_faults::Fault;
-use expected::expected_of;
-use introduced::{introduce, is_new};
+use looking::{run_explain, run_plot, run_show};
 use meters::run_collect;
+use named::{print_completions, print_manual, print_names};
 use occupant::refuse_occupied;
+use outcome::{outcome, prints_json, showing_for};
+use polled::run_poll;
 use streams::{Input, Output, flush};
 use watched::Watched;
 
@@ -65,12 +61,8 @@ const LISTEN: &str = "127.0.0.1:4059";
 /// The place of the meter that a loopback polls.
 const LOOPBACK: &str = "the loopback";
 
-/// The names of the output and the input in messages, and the file name that means the input.
+/// The name of the output in messages.
 const OUTPUT: &str = "standard output";
-
-const INPUT: &str = "standard input";
-
-const INPUT_NAME: &str = "-";
 
 /// The descriptor of standard error (POSIX, STDERR_FILENO).
 const STANDARD_ERROR: RawFd = 2;
@@ -80,17 +72,8 @@ const STANDARD_ERROR: RawFd = 2;
 pub struct Terminals {
     pub output: bool,
     pub errors: bool,
-}
-
-/// What is shown of the progress of a command: nothing if nobody watches the errors; only a line at the end if what is printed goes to
-/// a terminal too.
-fn showing_for(terminals: Terminals, is_quiet: bool) -> Showing {
-    match terminals {
-        _ if is_quiet => Showing::Nothing,
-        Terminals { errors: false, .. } => Showing::Nothing,
-        Terminals { output: true, .. } => Showing::Total,
-        Terminals { output: false, .. } => Showing::Progress,
-    }
+    /// Whether the user wants no colors on them (the environment variable NO_COLOR is set and not empty).
+    pub is_plain: bool,
 }
 
 /// The status of a run that came to its end.
@@ -103,18 +86,22 @@ pub const FAULT: u8 = 1;
 pub const USAGE: u8 = 2;
 
 /// Says what was made.
-fn report_format<W: Write>(output: &mut W, demo: bool) -> io::Result<()> {
+fn report_format<W: Write>(output: &mut W, day: Option<u32>) -> io::Result<()> {
     writeln!(output, "formatted {PAGES} pages")?;
-    if demo {
-        let rows = demo::QUARTERS;
+    if let Some(begins) = day {
+        let rows = demo::rows_of(begins);
         writeln!(output, "captured {rows} rows")?;
     }
     Ok(())
 }
 
 /// Lets a day pass on a new meter in a file.
-fn pass_a_day<'a, P: Pages>(meter: &mut Meter<P>, file: &'a str) -> Result<(), Fault<'a>> {
-    match demo::pass(meter) {
+fn pass_a_day<'a, P: Pages>(
+    meter: &mut Meter<P>,
+    file: &'a str,
+    begins: u32,
+) -> Result<(), Fault<'a>> {
+    match demo::pass(meter, begins) {
         Ok(()) => Ok(()),
         Err(AddFault::Exhausted) => Err(Fault::Open(Some(file), OpenFault::Exhausted)),
         Err(_) => Err(Fault::Open(Some(file), OpenFault::Device)),
@@ -125,16 +112,13 @@ fn pass_a_day<'a, P: Pages>(meter: &mut Meter<P>, file: &'a str) -> Result<(), F
 fn pass_where_asked<'a, P: Pages>(
     made: &mut Result<Meter<P>, (P, OpenFault)>,
     file: &'a str,
-    demo: bool,
+    day: Option<u32>,
 ) -> Result<(), Fault<'a>> {
     match made {
-        Ok(meter) => {
-            if demo {
-                pass_a_day(meter, file)
-            } else {
-                Ok(())
-            }
-        }
+        Ok(meter) => match day {
+            Some(begins) => pass_a_day(meter, file, begins),
+            None => Ok(()),
+        },
         Err(failed) => Err(Fault::Open(Some(file), failed.1)),
     }
 }
@@ -151,15 +135,16 @@ fn has_failed<P: Pages + Drop>(made: Result<Meter<P>, (P, OpenFault)>) -> bool {
     }
 }
 
-/// Makes a new meter in a file, with a day of captures if `demo` is set. A file that holds something is refused, unless it is a meter
+/// Makes a new meter in a file, with a day of captures if one is asked for. A file that holds something is refused, unless it is a meter
 /// and `force` is set.
 #[inline(never)]
-fn run_format<'a, H: Files<File = File> + AllocGlobal, W: Write>(
+fn run_format<'a, H: Files<File = File> + Clock + AllocGlobal, W: Write>(
     host: &H,
     options: &FormatOptions<'a>,
     output: &mut W,
 ) -> Result<(), Fault<'a>> {
     let file = options.file;
+    let day = demo::day_of(host, options)?;
     if let Err(error) = refuse_occupied(host, file, options.force) {
         return Err(Fault::of_system(host.alloc(), file, &error));
     }
@@ -168,14 +153,14 @@ fn run_format<'a, H: Files<File = File> + AllocGlobal, W: Write>(
         Err(error) => return Err(Fault::of_system(host.alloc(), file, &error)),
     };
     let mut formatted = Meter::format(host.alloc(), pages);
-    match pass_where_asked(&mut formatted, file, options.demo) {
+    match pass_where_asked(&mut formatted, file, day) {
         Ok(()) => {}
         Err(fault) => return Err(fault),
     }
     if has_failed(formatted) {
         return Err(Fault::Open(Some(file), OpenFault::Device));
     }
-    match report_format(output, options.demo) {
+    match report_format(output, day) {
         Ok(()) => Ok(()),
         Err(_) => Err(Fault::Output),
     }
@@ -418,250 +403,21 @@ fn run_serve<'a, H: Net + Files<File = File> + Clock + AllocGlobal, W: Write, E:
     served
 }
 
-/// Polls the meter at an address once. A new file of readings begins with the name of the meter, among the errors; not if the poll is
-/// protected, since the name is asked for in clear.
+/// The status of a run that has ended; a fault is reported among the errors, as JSON if `is_json` is set.
 #[inline(never)]
-fn run_poll_of<
-    'a,
-    H: Net + Files<File = File> + Clock + AllocGlobal + RandomSource,
-    W: Write,
-    E: Write,
->(
-    host: &H,
-    polling: &Polling<'a, '_>,
-    guards: PollGuards<'a, '_, H>,
-    timeout: u32,
-    output: &mut W,
+pub fn finish<E: Write>(
+    alloc: Global,
+    is_json: bool,
+    ended: Result<(), Fault<'_>>,
     errors: &mut E,
-) -> Result<(), Fault<'a>>
-    requires { IfSome polling.now.route IsRoute }
-{
-    let new_file = polling.readings.filter(|file| is_new(host, *file));
-    let mut setup = PollSetup::of(host, timeout, guards);
-    let told = match poll(host.alloc(), &mut setup, polling, output, errors) {
-        Ok(()) => Ok(()),
-        Err(fault) => match setup.guards.told(&fault) {
-            Some(own) => Err(own),
-            None => Err(Fault::of_field(
-                host.alloc(),
-                polling.address,
-                polling.readings,
-                polling.secret_file,
-                fault,
-            )),
-        },
-    };
-    let is_introduced = polling.expected.is_empty() && !polling.is_protected;
-    match new_file {
-        Some(file) if told.is_ok() && is_introduced => {
-            let route = public_route(polling.route);
-            let line = &mut setup.line;
-            let _told = introduce(host.alloc(), line, route, polling.address, file, errors);
-        }
-        _ => {}
-    }
-    drop(setup);
-    told
-}
-
-/// Polls the meter at an address once, if it shows the texts of `--expect`; with `--security` in a protected association.
-fn run_poll<
-    'a,
-    H: Net + Files<File = File> + Clock + AllocGlobal + RandomSource,
-    W: Write,
-    E: Write,
->(host: &H, options: &PollOptions<'a>, output: &mut W, errors: &mut E) -> Result<(), Fault<'a>> {
-    let PollLine { address, route } = poll_line(options)?;
-    let (guards, left) = guards_of(host, options)?;
-    let expected = match expected_of(host.alloc(), &options.expecting) {
-        Ok(expected) => expected,
-        Err(fault) => {
-            drop(guards);
-            return Err(fault);
-        }
-    };
-    let polling = Polling {
-        address,
-        route,
-        readings: options.readings,
-        secret_file: poll_secret(options, route),
-        client: options.client,
-        deadline: left,
-        retries: options.meter.retries.unwrap_or(MOST_RETRIES),
-        ahead: options.ahead,
-        strict: options.strict,
-        expected: expected.as_slice(),
-        is_protected: options.meter.security.is_some(),
-    };
-    let timeout = options.meter.timeout;
-    let told = run_poll_of(host, &polling, guards, timeout, output, errors);
-    drop(expected);
-    match told {
-        Err(Fault::Late(place, _)) => Err(Fault::Late(place, options.deadline)),
-        told => told,
-    }
-}
-
-/// The file's name, unless it is the one that means standard input.
-fn named_file(file: Option<&str>) -> Option<&str> {
-    file.filter(|name| *name != INPUT_NAME)
-}
-
-/// Explains the frames in a file, or on the input if no file is given.
-#[inline(never)]
-fn run_explain<'a, H: Files<File = File> + AllocGlobal, R: Read + Drop, W: Write>(
-    host: &H,
-    options: &ExplainOptions<'a>,
-    input: R,
-    output: &mut W,
-) -> Result<(), Fault<'a>> {
-    let form = ExplainForm {
-        layout: match (options.format, options.short) {
-            (OutputFormat::Json, _) => Layout::Json,
-            (OutputFormat::Text, true) => Layout::Short,
-            (OutputFormat::Text, false) => Layout::Full,
-        },
-        raw: options.raw,
-        hex: options.hex,
-    };
-    let Some(keys) = options.keys else {
-        return explain_file(host, form, NoKeys, options.file, input, output);
-    };
-    let stations = stations_of(host, keys)?;
-    let told = explain_file(host, form, &stations, options.file, input, output);
-    drop(stations);
-    told
-}
-
-/// The same, with what opens ciphered APDUs.
-#[inline(never)]
-fn explain_file<'a, H: Files<File = File> + AllocGlobal, O: Opener, R: Read + Drop, W: Write>(
-    host: &H,
-    form: ExplainForm,
-    opener: O,
-    file: Option<&'a str>,
-    input: R,
-    output: &mut W,
-) -> Result<(), Fault<'a>> {
-    let Some(file) = named_file(file) else {
-        return explain_input(host, form, opener, INPUT, input, output);
-    };
-    match fs::open(host, file) {
-        Ok(opened) => explain_input(host, form, opener, file, opened, output),
-        Err(error) => Err(Fault::of_system(host.alloc(), file, &error)),
-    }
-}
-
-/// Explains the frames on an input. The explanation of a line is written before the next line is waited for.
-fn explain_input<'a, H: AllocGlobal, O: Opener, R: Read + Drop, W: Write>(
-    host: &H,
-    form: ExplainForm,
-    opener: O,
-    place: &'a str,
-    input: R,
-    output: &mut W,
-) -> Result<(), Fault<'a>> {
-    let mut reader = buffer_input(host.alloc(), input)?;
-    let explained = match explain_with(host.alloc(), form, opener, &mut reader, output) {
-        Ok(()) => Ok(()),
-        Err(ExplainFault::Memory) => Err(Fault::MEMORY),
-        Err(ExplainFault::Input) => Err(Fault::Input(place)),
-        Err(ExplainFault::Output) => Err(Fault::Output),
-    };
-    let told = result_with_flush(explained, output.flush());
-    drop(reader);
-    told
-}
-
-/// Shows the contents of a meter's file, and the curve of its load profile if it is asked for.
-#[inline(never)]
-fn run_show<'a, H: Files<File = File> + AllocGlobal, W: Write + Drop>(
-    host: &H,
-    options: &ShowOptions<'a>,
-    output: W,
-) -> Result<(), Fault<'a>> {
-    let file = options.file;
-    let mut writer = buffer_output(host.alloc(), output)?;
-    let curve = if options.plot {
-        Curve::Text
-    } else {
-        Curve::None
-    };
-    let shown = match show_file(host, file, curve, &mut writer) {
-        Ok(()) => Ok(()),
-        Err(ShowFault::File(error)) => Err(Fault::of_system(host.alloc(), file, &error)),
-        Err(ShowFault::Memory) => Err(Fault::MEMORY),
-        Err(ShowFault::Output) => Err(Fault::Output),
-    };
-    result_with_flush(shown, writer.flush())
-}
-
-/// The text that was read at a place.
-fn text_at<'a>(
-    alloc: Global,
-    place: &'a str,
-    read: io::Result<String>,
-) -> Result<(&'a str, String), Fault<'a>> {
-    match read {
-        Ok(text) => Ok((place, text)),
-        Err(error) => Err(Fault::of_system(alloc, place, &error)),
-    }
-}
-
-/// The text of a readings file, or of the input if its name says so, and its name for messages.
-fn readings_text<'a, H: Files + AllocGlobal, R: Read + Drop>(
-    host: &H,
-    readings: &'a str,
-    input: R,
-) -> Result<(&'a str, String), Fault<'a>> {
-    match named_file(Some(readings)) {
-        Some(file) => {
-            let text = text_at(host.alloc(), file, fs::read_to_string(host, file));
-            drop(input);
-            text
-        }
-        None => text_at(host.alloc(), INPUT, io::read_to_string(host.alloc(), input)),
-    }
-}
-
-/// Plots the load profile of the readings in a text, which comes from this place.
-fn plot_text<'a, W: Write + Drop>(
-    alloc: Global,
-    place: &'a str,
-    text: &str,
-    form: Form,
-    output: W,
-) -> Result<(), Fault<'a>> {
-    let mut writer = buffer_output(alloc, output)?;
-    let plotted = match plot_readings(alloc, text, form, &mut writer) {
-        Ok(()) => Ok(()),
-        Err(fault) => Err(Fault::of_plot(place, fault)),
-    };
-    result_with_flush(plotted, writer.flush())
-}
-
-/// Plots the load profile of a readings file.
-#[inline(never)]
-fn run_plot<'a, H: Files + AllocGlobal, R: Read + Drop, W: Write + Drop>(
-    host: &H,
-    options: &PlotOptions<'a>,
-    input: R,
-    output: W,
-) -> Result<(), Fault<'a>> {
-    let (place, text) = readings_text(host, options.readings, input)?;
-    let form = if options.svg { Form::Svg } else { Form::Text };
-    plot_text(host.alloc(), place, text.as_str(), form, output)
-}
-
-/// The status of a run that has ended; a fault is named among the errors.
-pub fn finish<E: Write>(ended: Result<(), Fault<'_>>, errors: &mut E) -> io::Result<u8>
+) -> io::Result<u8>
     ensures { IfOk result (λ status. MatchResult ended.entry (λ _. status ≡ DONE)
         (λ _. status ≡ FAULT)) }
 {
     match ended {
         Ok(()) => Ok(DONE),
         Err(fault) => {
-            let told = writeln!(errors, "dlms: {fault}");
+            let told = put_fault(alloc, &fault, is_json, errors);
             drop(fault);
             told?;
             Ok(FAULT)
@@ -697,7 +453,7 @@ fn run_job<
         Job::Replay(None) => run_replay_memory(host, input, output),
         Job::Loopback(options) => unread(run_loopback(host, &options, output), input),
         Job::Serve(options) => unread(run_serve(host, &options, output, errors), input),
-        Job::Poll(options) => unread(run_poll(host, &options, output, errors), input),
+        Job::Poll(options) => { unread(run_poll(host, &options, terminals, output, errors), input) }
         Job::Collect(options) => {
             let is_terminal = terminals.errors && !terminals.output;
             unread(
@@ -705,7 +461,7 @@ fn run_job<
                 input,
             )
         }
-        Job::Explain(options) => run_explain(host, &options, input, output),
+        Job::Explain(options) => run_explain(host, &options, input, output, errors, terminals),
         Job::Get(options) => unread(ask_to_get(host, &options, output, errors), input),
         Job::List(options) => unread(ask_to_list(host, &options, output, errors), input),
         Job::Profile(options) => {
@@ -721,43 +477,9 @@ fn run_job<
         Job::Show(options) => unread(run_show(host, &options, output), input),
         Job::Plot(options) => run_plot(host, &options, input, output),
         Job::Keys(options) => unread(run_keys(host, &options, output), input),
-    }
-}
-
-/// Whether the job only shows something: if its reader closes the pipe, the job is done. A replay changes its meter, so it is not
-/// done while lines of it are left.
-fn may_be_cut(job: &Job<'_>) -> bool {
-    matches!(
-        job,
-        Job::Explain(_) | Job::List(_) | Job::Profile(_) | Job::Show(_) | Job::Plot(_)
-    )
-}
-
-/// Whether a job ended early for a stream, one of which the output may be.
-fn is_of_a_stream(ended: &Result<(), Fault<'_>>) -> bool {
-    match ended {
-        Ok(()) => false,
-        Err(fault) => fault.is_of_a_stream(),
-    }
-}
-
-/// How a job ended, if the output may have failed: the reason is reported, unless a reader has closed its end of a pipe.
-fn outcome<'a>(
-    alloc: Global,
-    job: &Job<'a>,
-    ended: Result<(), Fault<'a>>,
-    failure: Option<io::Error>,
-) -> Result<(), Fault<'a>> {
-    match failure {
-        Some(error) if is_of_a_stream(&ended) => {
-            drop(ended);
-            if error.kind() == io::ErrorKind::BrokenPipe && may_be_cut(job) {
-                Ok(())
-            } else {
-                Err(Fault::of_system(alloc, OUTPUT, &error))
-            }
-        }
-        _ => ended,
+        Job::Names(word) => unread(print_names(host.alloc(), word, output), input),
+        Job::Man => unread(print_manual(host.alloc(), output), input),
+        Job::Completions(shell) => { unread(print_completions(host.alloc(), shell, output), input) }
     }
 }
 
@@ -778,23 +500,24 @@ pub fn run<
     terminals: Terminals,
 ) -> io::Result<u8>
     // Arguments that ask for nothing give the status 2 (or 1 if memory runs out), and no others give 2: those that clap refuses, those with
-    // two options that exclude each other, and those without a valid address.
+    // two options that exclude each other, and those with an invalid address or word.
     ensures done { IfOk result (λ status. status ≡ DONE
         → (fault_of dlms (map (λ word. word.now) words.now) ≡ [])
         × IsClear (subcommand_of dlms (map (λ word. word.now) words.now))) }
     ensures usage { IfOk result (λ status. status ≡ USAGE
         → (fault_of dlms (map (λ word. word.now) words.now) ≢ [])
         ⊎ AsksBoth (subcommand_of dlms (map (λ word. word.now) words.now))
-        ⊎ NamesNoAddress (subcommand_of dlms (map (λ word. word.now) words.now))) }
+        ⊎ IsInvalid (subcommand_of dlms (map (λ word. word.now) words.now))) }
 {
     match job(host.alloc(), words) {
         Ok(job) => {
             let mut output = Watched::new(output);
             let ended = run_job(host, job, input, &mut output, errors, terminals);
-            finish(outcome(host.alloc(), &job, ended, output.failure()), errors)
+            let ended = outcome(host.alloc(), &job, ended, output.failure());
+            finish(host.alloc(), prints_json(&job), ended, errors)
         }
         Err(error) if error.kind() == ErrorKind::OutOfMemory => {
-            finish(Err(Fault::MEMORY), errors)
+            finish(host.alloc(), false, Err(Fault::MEMORY), errors)
         }
         Err(error) => {
             write!(errors, "{error}")?;

@@ -6,6 +6,7 @@ use dlms_call::CallFault;
 use dlms_client::{Denial, Fault as Talked};
 use dlms_counters::{CounterFault, OpenFault as NotOpened};
 use dlms_ends::RunFault;
+use dlms_guards::GuardFault;
 use dlms_headend::{ColumnList, PollFault, ReadingsFault};
 use dlms_identity::Expected;
 use dlms_keys::{CountersFault, FileFault, SettingsFault, StationsFault};
@@ -24,6 +25,9 @@ use std::{fmt, io};
 
 /// The diagnostic of a secret that is another (IEC 62056-5-3, authentication-failure).
 const AUTHENTICATION_FAILURE: u8 = 13;
+
+/// A message that is not newer than those of earlier associations.
+const STALE: SecuredFault = SecuredFault::Message(UnprotectFault::OldCounter);
 
 /// Why a run ended early.
 #[derive(Drop)]
@@ -46,10 +50,16 @@ pub enum Fault<'a> {
     Columns(&'a str, ColumnList),
     /// In this file the line of this number is not a line of readings.
     Readings(&'a str, usize),
+    /// This file has no row of the chosen time.
+    NoRows(&'a str),
+    /// This is no register of a readings file.
+    Register(&'a str),
     /// The secret in this file has more than 16 bytes.
     Secret(&'a str),
-    /// The poll of this address was not done within this many seconds.
+    /// The address did not accept a connection within this many seconds.
     Late(&'a str, u32),
+    /// The poll of this address was not done within its deadline, this many seconds.
+    Overdue(&'a str, u32),
     /// One of the rows from this address or file is refused for its clock.
     Clock(&'a str, ClockFault),
     /// This is no `NAME=TEXT`, or one too many.
@@ -58,6 +68,8 @@ pub enum Fault<'a> {
     Stranger(&'a str, Expected<'a>),
     /// This is no name of an attribute or a method.
     Name(&'a str),
+    /// No object has this word in its code, its alias or its name.
+    Unnamed(&'a str),
     /// This is no address of a meter.
     Server(&'a str),
     /// This is no wrapper port of a meter.
@@ -66,6 +78,10 @@ pub enum Fault<'a> {
     Place(&'a str),
     /// This is no value.
     Value(&'a str),
+    /// This is no value of the attribute's type, which has this meaning.
+    Unfit(&'a str, &'a str),
+    /// The type of the attribute of this name is not known, or no text is written in it.
+    Untyped(&'a str),
     /// The object of this name is not in the object list.
     Class(&'a str),
     /// What was asked for by this name has this result, an action's or an access's.
@@ -127,6 +143,34 @@ impl<'a> Fault<'a> {
         }
     }
 
+    /// The fault of the file of frame counters that this file of settings names.
+    pub fn of_counters_file(alloc: Global, file: &'a str, fault: CountersFault) -> Fault<'a> {
+        match fault {
+            CountersFault::System(error) => Fault::of_counters(alloc, file, &error),
+            fault => Fault::Counters(file, fault),
+        }
+    }
+
+    /// The fault of a file of settings or keys.
+    pub fn of_keys(alloc: Global, file: &'a str, fault: FileFault) -> Fault<'a> {
+        match fault {
+            FileFault::System(error) => Fault::of_system(alloc, file, &error),
+            fault => Fault::Keys(file, fault),
+        }
+    }
+
+    /// The fault of a guard for an association with the meter at this place, by this file of settings.
+    pub fn of_guard(alloc: Global, place: &'a str, file: &'a str, fault: GuardFault) -> Fault<'a> {
+        match fault {
+            GuardFault::Settings(fault) => Fault::of_keys(alloc, file, fault),
+            GuardFault::Counters(fault) => Fault::of_counters_file(alloc, file, fault),
+            GuardFault::Stored(fault) => Fault::Stored(file, fault),
+            GuardFault::Random(error) => Fault::of_system(alloc, file, &error),
+            GuardFault::Stale => Fault::Security(place, STALE),
+            GuardFault::Memory => Fault::MEMORY,
+        }
+    }
+
     /// The fault of a profile's columns or rows.
     pub fn of_buffer(name: &'a str, fault: BufferFault) -> Fault<'a> {
         match fault {
@@ -162,7 +206,7 @@ impl<'a> Fault<'a> {
         match fault {
             FieldFault::System(place, error) => Fault::of_system(alloc, place, &error),
             FieldFault::Secret => Fault::Secret(file),
-            FieldFault::Late(address, seconds) => Fault::Late(address, seconds),
+            FieldFault::Late(address, seconds) => Fault::Overdue(address, seconds),
             FieldFault::Clock(place, fault) => Fault::Clock(place, fault),
             FieldFault::Stranger(place, expected) => Fault::Stranger(place, expected),
             FieldFault::Unasked(place, fault) => Fault::of_call(place, fault),
@@ -181,7 +225,7 @@ impl<'a> Fault<'a> {
         match fault {
             FieldFault::System(place, error) => Fault::of_system(alloc, place, &error),
             FieldFault::Secret => Fault::Secret(secret_file.unwrap_or("")),
-            FieldFault::Late(address, seconds) => Fault::Late(address, seconds),
+            FieldFault::Late(address, seconds) => Fault::Overdue(address, seconds),
             FieldFault::Clock(place, fault) => Fault::Clock(place, fault),
             FieldFault::Stranger(place, expected) => Fault::Stranger(place, expected),
             FieldFault::Unasked(place, fault) => Fault::of_call(place, fault),
@@ -211,7 +255,53 @@ impl<'a> Fault<'a> {
         match fault {
             PlotFault::Readings(ReadingsFault::Line(number)) => Fault::Readings(readings, number),
             PlotFault::Readings(ReadingsFault::Memory) | PlotFault::Memory => Fault::MEMORY,
+            PlotFault::NoRows => Fault::NoRows(readings),
             PlotFault::Output => Fault::Output,
+        }
+    }
+
+    /// The place that its message names first: a file, an address, an object's name or an argument; `None` if it names none.
+    pub fn place(&self) -> Option<&'a str> {
+        match self {
+            Fault::System(place, _)
+            | Fault::Input(place)
+            | Fault::Open(Some(place), _)
+            | Fault::Poll(place, _)
+            | Fault::Columns(place, _)
+            | Fault::Readings(place, _)
+            | Fault::Secret(place)
+            | Fault::Late(place, _)
+            | Fault::Overdue(place, _)
+            | Fault::Clock(place, _)
+            | Fault::Expect(place)
+            | Fault::Stranger(place, _)
+            | Fault::Name(place)
+            | Fault::Unnamed(place)
+            | Fault::Unfit(place, _)
+            | Fault::Untyped(place)
+            | Fault::Server(place)
+            | Fault::Port(place)
+            | Fault::Place(place)
+            | Fault::Value(place)
+            | Fault::Class(place)
+            | Fault::Result(place, _, _)
+            | Fault::Denied(place, _)
+            | Fault::Call(place, _)
+            | Fault::Large(place, _)
+            | Fault::File(place)
+            | Fault::NoRows(place)
+            | Fault::Register(place)
+            | Fault::Action(place)
+            | Fault::Keys(place, _)
+            | Fault::Counters(place, _)
+            | Fault::CountersSystem(place, _)
+            | Fault::Stored(place, _)
+            | Fault::Security(place, _)
+            | Fault::Time(place)
+            | Fault::List(place, _, _)
+            | Fault::NoClock(place)
+            | Fault::Buffer(place, _) => Some(*place),
+            _ => None,
         }
     }
 
@@ -241,6 +331,18 @@ fn without_number(words: &str) -> &str {
     match words.split_once(" (os error ") {
         Some((before, _)) => before,
         None => words,
+    }
+}
+
+/// What to do about an error of the system in these words, as a further line; nothing for most. A meter that is busy with another client
+/// closes a connection, or does not answer on it; one that is off has no port.
+fn hint_of(words: &str) -> &'static str {
+    match words {
+        "Connection refused" => "\n  nothing listens there: look at the address and the port",
+        "closed by the other end" | "Connection reset by peer" => {
+            "\n  somebody is there: the meter may be busy with another client, or speak another protocol"
+        }
+        _ => "",
     }
 }
 
@@ -503,7 +605,8 @@ impl fmt::Display for Fault<'_> {
         match self {
             Fault::System(place, words) => {
                 let words = without_number(words.as_str());
-                write!(f, "io\n  {place}: {words}")
+                let hint = hint_of(words);
+                write!(f, "io\n  {place}: {words}{hint}")
             }
             Fault::Output => f.write_str("io\n  standard output: it accepts no more"),
             Fault::Input(place) => write!(f, "io\n  {place}: it cannot be read"),
@@ -541,6 +644,10 @@ impl fmt::Display for Fault<'_> {
             Fault::Late(address, seconds) => {
                 write!(f, "line\n  {address}: not done within {seconds} seconds")
             }
+            Fault::Overdue(address, seconds) => write!(
+                f,
+                "line\n  {address}: not done within {seconds} seconds\n  --deadline gives it more time"
+            ),
             Fault::Clock(place, fault) => write_clock(f, place, fault),
             Fault::Expect(text) => write!(
                 f,
@@ -549,7 +656,11 @@ impl fmt::Display for Fault<'_> {
             Fault::Stranger(place, expected) => write_stranger(f, place, expected),
             Fault::Name(text) => write!(
                 f,
-                "name\n  {text}: a name is expected as 1.0.1.8.0.255 or 1.0.99.1.0.255/3"
+                "name\n  {text}: a name is expected as 1-0:1.8.0*255, 1.0.1.8.0.255 or a word such as clock, and /3 after it for attribute 3\n  dlms names lists the words"
+            ),
+            Fault::Unnamed(word) => write!(
+                f,
+                "name\n  {word}: no object has this in its code, its alias or its name"
             ),
             Fault::Server(text) => write!(
                 f,
@@ -566,6 +677,11 @@ impl fmt::Display for Fault<'_> {
             Fault::Value(text) => write!(
                 f,
                 "value\n  {text}: a value is expected as u32:900, text:.., hex:.., raw:.., null or now"
+            ),
+            Fault::Unfit(text, meaning) => write!(f, "value\n  {text}: {meaning} is expected"),
+            Fault::Untyped(name) => write!(
+                f,
+                "value\n  {name}: its type cannot be read, or is not simple: a value with its type is expected, as u32:900 or text:.."
             ),
             Fault::Class(name) => write!(
                 f,
@@ -591,6 +707,16 @@ impl fmt::Display for Fault<'_> {
                 )
             }
             Fault::File(file) => write!(f, "long\n  {file}: more than 65536 bytes"),
+            Fault::NoRows(file) => {
+                write!(
+                    f,
+                    "rows\n  {file}: no row is of the time that --from and --to give"
+                )
+            }
+            Fault::Register(text) => write!(
+                f,
+                "register\n  {text}: a register is expected: 1.8.0 or r0 for the import, 2.8.0 or r1 for the export, 3.8.0 or r2 for reactive energy"
+            ),
             Fault::Time(text) => write!(
                 f,
                 "time\n  {text}: a time is expected, as 2026-01-31, 2026-01-31T12:00 or 2026-01-31T12:00:00"

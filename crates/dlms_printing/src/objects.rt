@@ -1,5 +1,6 @@
 //! The objects of a meter, as its object list has them.
 
+use crate::progress::append_blanks;
 use crate::values::{append_code, append_labelled};
 use dlms_data::Data;
 use dlms_explain::write_code;
@@ -13,6 +14,36 @@ use std::slice;
 
 /// The most octets of an entry that is read: far more than 255 attributes and as many methods take.
 const MOST_ENTRY: usize = 16_384;
+
+/// The width of the name of an attribute or a method, with a blank: few names are longer.
+const PART_WIDTH: usize = 32;
+
+/// How an object list is printed: a line an object in columns, with a line for each attribute and method by its name, or as JSON.
+#[derive(Clone, Copy, Debug, PartialEq, Eq)]
+pub enum ListForm {
+    Columns,
+    Long,
+    Json,
+}
+
+/// The widths of the columns of an object list.
+#[derive(Clone, Copy)]
+pub struct ListWidths {
+    name: usize,
+    class: usize,
+    attributes: usize,
+}
+
+impl ListWidths {
+    /// Columns that have nothing yet.
+    pub fn new() -> Self {
+        ListWidths {
+            name: 0,
+            class: 0,
+            attributes: 0,
+        }
+    }
+}
 
 /// The right to an attribute, by its access mode (IEC 62056-6-2, Blue Book 4.4.4, attribute_access_mode).
 fn attribute_right(mode: u8) -> &'static str {
@@ -76,20 +107,85 @@ fn append_name(alloc: Global, text: &mut Vec<u8>, code: [u8; 6]) -> Result<(), A
     }
 }
 
-/// Appends the line of an entry of the object list.
+/// Ends a column that began at this place: it gets blanks up to its width, which first grows to what the column has.
+fn end_column(text: &mut Vec<u8>, begin: usize, width: &mut usize) -> Result<usize, AllocError> {
+    let length = text.len().saturating_sub(begin);
+    *width = (*width).max(length);
+    append_blanks(text, width.saturating_sub(length))?;
+    text.extend_from_slice(b" |")?;
+    Ok(text.len())
+}
+
+/// Appends the class of an entry.
+fn append_class(text: &mut Vec<u8>, entry: &Entry<'_, Global>) -> Result<(), AllocError> {
+    text.extend_from_slice(class_name(entry.class).as_bytes())?;
+    append_labelled(text, b" ", u64::from(entry.class))?;
+    append_labelled(text, b", version ", u64::from(entry.version))
+}
+
+/// Appends the line of an entry of the object list, in columns that grow to what it has.
 fn append_entry(
+    alloc: Global,
+    text: &mut Vec<u8>,
+    entry: &Entry<'_, Global>,
+    widths: &mut ListWidths,
+) -> Result<(), AllocError> {
+    let begin = text.len();
+    append_name(alloc, text, entry.name)?;
+    let begin = end_column(text, begin, &mut widths.name)?;
+    text.extend_from_slice(b" ")?;
+    append_class(text, entry)?;
+    let begin = end_column(text, begin, &mut widths.class)?;
+    append_rights(text, "", entry.attributes, false)?;
+    end_column(text, begin, &mut widths.attributes)?;
+    append_rights(text, "", entry.methods, true)?;
+    text.extend_from_slice(b"\n")
+}
+
+/// The name of an attribute or a method of a class; empty if it has none.
+fn part_name(class: u16, is_method: bool, number: u8) -> &'static str {
+    match class_of(class) {
+        Some(class) if is_method => class.method(number).unwrap_or(""),
+        Some(class) => class.attribute(number).unwrap_or(""),
+        None => "",
+    }
+}
+
+/// Appends a line for each attribute, or for each method: its number, its name and the right to it.
+fn append_parts(
+    text: &mut Vec<u8>,
+    class: u16,
+    word: &[u8],
+    rights: &[Data<Global>],
+    is_method: bool,
+) -> Result<(), AllocError> {
+    for right in rights {
+        if let Some((number, mode)) = right_of(right) {
+            append_labelled(text, word, u64::from(number))?;
+            text.extend_from_slice(if number < 10 { b"    " } else { b"   " })?;
+            let begin = text.len();
+            text.extend_from_slice(part_name(class, is_method, number).as_bytes())?;
+            let length = text.len().saturating_sub(begin);
+            append_blanks(text, PART_WIDTH.saturating_sub(length).max(1))?;
+            text.extend_from_slice(right_name(is_method, mode).as_bytes())?;
+            text.extend_from_slice(b"\n")?;
+        }
+    }
+    Ok(())
+}
+
+/// Appends an entry with a line for each of its attributes and methods.
+fn append_entry_long(
     alloc: Global,
     text: &mut Vec<u8>,
     entry: &Entry<'_, Global>,
 ) -> Result<(), AllocError> {
     append_name(alloc, text, entry.name)?;
     text.extend_from_slice(b" | ")?;
-    text.extend_from_slice(class_name(entry.class).as_bytes())?;
-    append_labelled(text, b" ", u64::from(entry.class))?;
-    append_labelled(text, b", version ", u64::from(entry.version))?;
-    append_rights(text, " |", entry.attributes, false)?;
-    append_rights(text, " |", entry.methods, true)?;
-    text.extend_from_slice(b"\n")
+    append_class(text, entry)?;
+    text.extend_from_slice(b"\n")?;
+    append_parts(text, entry.class, b"  attribute ", entry.attributes, false)?;
+    append_parts(text, entry.class, b"  method    ", entry.methods, true)
 }
 
 /// The name of a class.
@@ -140,53 +236,37 @@ fn element_of(alloc: Global, element: &[u8]) -> Result<Option<Data<Global>>, Val
     Ok(Some(value))
 }
 
-/// Appends the line of an element that was read, if it is an entry, and says whether it is.
+/// Appends an element that was read in a form, if it is an entry, and returns whether it is.
 fn append_read(
     alloc: Global,
     text: &mut Vec<u8>,
     value: &Data<Global>,
+    form: ListForm,
+    widths: &mut ListWidths,
 ) -> Result<bool, AllocError> {
-    match entry_of(value) {
-        Some(entry) => {
-            append_entry(alloc, text, &entry)?;
-            Ok(true)
-        }
-        None => Ok(false),
+    let Some(entry) = entry_of(value) else {
+        return Ok(false);
+    };
+    match form {
+        ListForm::Columns => append_entry(alloc, text, &entry, widths)?,
+        ListForm::Long => append_entry_long(alloc, text, &entry)?,
+        ListForm::Json => append_entry_json(text, &entry)?,
     }
+    Ok(true)
 }
 
-/// Appends the line of an element of an object list, if it is an entry, and says whether it is.
+/// Appends an element of an object list in a form, if it is an entry, and returns whether it is.
 pub fn append_object(
     alloc: Global,
     text: &mut Vec<u8>,
     element: &[u8],
+    form: ListForm,
+    widths: &mut ListWidths,
 ) -> Result<bool, ValueFault> {
     let Some(value) = element_of(alloc, element)? else {
         return Ok(false);
     };
-    let appended = append_read(alloc, text, &value);
-    drop(value);
-    Ok(appended?)
-}
-
-/// Appends an element that was read as an object of JSON; null if it has another form.
-fn append_read_json(text: &mut Vec<u8>, value: &Data<Global>) -> Result<(), AllocError> {
-    match entry_of(value) {
-        Some(entry) => append_entry_json(text, &entry),
-        None => text.extend_from_slice(b"null"),
-    }
-}
-
-/// Appends an element of an object list as an object of JSON; null if it has another form.
-pub fn append_object_json(
-    alloc: Global,
-    text: &mut Vec<u8>,
-    element: &[u8],
-) -> Result<(), ValueFault> {
-    let Some(value) = element_of(alloc, element)? else {
-        return Ok(text.extend_from_slice(b"null")?);
-    };
-    let appended = append_read_json(text, &value);
+    let appended = append_read(alloc, text, &value, form, widths);
     drop(value);
     Ok(appended?)
 }

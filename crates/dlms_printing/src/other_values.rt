@@ -1,8 +1,8 @@
 //! Values of the types of Data that this project's own meter never sends: floats, deltas, compact arrays.
 
 use dlms_buffer::append_value;
-use dlms_text::{Front, ValueFault, append_decimal, append_json, append_quoted, front_of};
-use dlms_values::{SignedKind, UnsignedKind, Value, read};
+use dlms_text::{ValueFault, append_decimal};
+use dlms_values::{OctetsKind, SignedKind, UnsignedKind, Value, read};
 use std::alloc::{AllocError, Global};
 use std::str;
 
@@ -12,7 +12,10 @@ fn signed_name(kind: SignedKind) -> &'static str {
         SignedKind::DeltaInteger => "delta-integer",
         SignedKind::DeltaLong => "delta-long",
         SignedKind::DeltaDoubleLong => "delta-double-long",
-        _ => "integer",
+        SignedKind::Integer => "integer",
+        SignedKind::Long => "long",
+        SignedKind::DoubleLong => "double-long",
+        SignedKind::Long64 => "long64",
     }
 }
 
@@ -21,20 +24,41 @@ fn unsigned_name(kind: UnsignedKind) -> &'static str {
         UnsignedKind::DeltaUnsigned => "delta-unsigned",
         UnsignedKind::DeltaLongUnsigned => "delta-long-unsigned",
         UnsignedKind::DeltaDoubleLongUnsigned => "delta-double-long-unsigned",
-        _ => "unsigned",
+        UnsignedKind::Bcd => "bcd",
+        UnsignedKind::Enum => "enum",
+        UnsignedKind::Unsigned => "unsigned",
+        UnsignedKind::LongUnsigned => "long-unsigned",
+        UnsignedKind::DoubleLongUnsigned => "double-long-unsigned",
+        UnsignedKind::Long64Unsigned => "long64-unsigned",
+    }
+}
+
+fn octets_name(kind: OctetsKind) -> &'static str {
+    match kind {
+        OctetsKind::OctetString => "octet-string",
+        OctetsKind::VisibleString => "visible-string",
+        OctetsKind::Utf8String => "utf8-string",
+        OctetsKind::DateTime => "date-time",
+        OctetsKind::Date => "date",
+        OctetsKind::Time => "time",
     }
 }
 
 /// The name of a value's type.
-fn type_name(value: &Value<'_>) -> &'static str {
+pub fn type_name(value: &Value<'_>) -> &'static str {
     match value {
+        Value::Null => "null",
+        Value::Boolean(_) => "boolean",
+        Value::BitString(_) => "bit-string",
+        Value::Octets(kind, _) => octets_name(*kind),
+        Value::Array(_) => "array",
+        Value::Structure(_) => "structure",
         Value::Float32(_) => "float32",
         Value::Float64(_) => "float64",
         Value::Signed(kind, _) => signed_name(*kind),
         Value::Unsigned(kind, _) => unsigned_name(*kind),
         Value::CompactArray(_) => "compact-array",
         Value::DontCare => "dont-care",
-        _ => "value",
     }
 }
 
@@ -104,75 +128,4 @@ pub fn append_other<'b>(
     };
     append_line(text, depth, &value)?;
     Ok(rest)
-}
-
-/// Appends a value as JSON: a number, null, or a string.
-fn append_plain_json(
-    alloc: Global,
-    text: &mut Vec<u8>,
-    value: &Value<'_>,
-) -> Result<(), AllocError> {
-    let mut words = Vec::new(alloc);
-    append_value(&mut words, value, 0)?;
-    match value {
-        Value::DontCare => text.extend_from_slice(b"null"),
-        Value::CompactArray(_) => append_quoted(text, words.as_slice()),
-        _ if words.as_slice() == b"NaN".as_slice() => text.extend_from_slice(b"null"),
-        _ => text.extend_from_slice(words.as_slice()),
-    }
-}
-
-/// Appends the value at the front, which holds no others, as JSON, and returns what follows it.
-fn append_leaf_json<'b>(
-    alloc: Global,
-    text: &mut Vec<u8>,
-    bytes: &'b [u8],
-) -> Result<&'b [u8], ValueFault> {
-    match append_json(alloc, text, bytes) {
-        Err(ValueFault::Form) => {}
-        result => return result,
-    }
-    let Ok((value, rest)) = read(bytes) else {
-        return Err(ValueFault::Form);
-    };
-    append_plain_json(alloc, text, &value)?;
-    Ok(rest)
-}
-
-/// Appends this many values between brackets, with room for this many levels, and returns what follows them.
-#[cycle(json)]
-fn append_items_json<'b>(
-    alloc: Global,
-    text: &mut Vec<u8>,
-    room: u8,
-    count: u32,
-    bytes: &'b [u8],
-) -> Result<&'b [u8], ValueFault> {
-    if room == 0 {
-        return Err(ValueFault::Form);
-    }
-    let mut parting: &[u8] = b"[";
-    let mut rest = bytes;
-    for _ in 0..count {
-        text.extend_from_slice(parting)?;
-        rest = append_any_json(alloc, text, room - 1, rest)?;
-        parting = b",";
-    }
-    text.extend_from_slice(if count == 0 { b"[]" } else { b"]" })?;
-    Ok(rest)
-}
-
-/// Appends the value of any type of Data at the front as JSON, with room for this many levels, and returns what follows it.
-#[cycle(json)]
-pub fn append_any_json<'b>(
-    alloc: Global,
-    text: &mut Vec<u8>,
-    room: u8,
-    bytes: &'b [u8],
-) -> Result<&'b [u8], ValueFault> {
-    match front_of(bytes) {
-        (Front::Array(count), rest) => append_items_json(alloc, text, room, count, rest),
-        (Front::Structure(count), rest) => append_items_json(alloc, text, room, count, rest),
-        (Front::Plain, rest) => append_leaf_json(alloc, text, rest),
-    }
 }

@@ -1,4 +1,4 @@
-//! How far the rows of a profile have come, for somebody who waits for them.
+//! How far the rows of a profile, or the bytes of a file, have come, for somebody who waits for them.
 
 use dlms_text::append_number;
 use std::alloc::{AllocError, Global};
@@ -58,27 +58,41 @@ impl RowsSeen {
         self.last.extend_from_slice(time)
     }
 
-    /// Appends how many rows there are.
-    fn append_count(&self, text: &mut Vec<u8>) -> Result<(), AllocError> {
-        append_number(text, u64::from(self.count))?;
-        text.extend_from_slice(if self.count == 1 { b" row" } else { b" rows" })
-    }
-
     /// Appends the line at the end: `96 rows, 2026-11-26T00:15:00 to 2026-11-27T00:00:00`.
     fn append_total(&self, text: &mut Vec<u8>) -> Result<(), AllocError> {
-        self.append_count(text)?;
-        if !self.first.is_empty() {
-            text.extend_from_slice(b", ")?;
-            text.extend_from_slice(self.first.as_slice())?;
-        }
-        if self.count > 1 && !self.last.is_empty() {
-            text.extend_from_slice(b" to ")?;
-            text.extend_from_slice(self.last.as_slice())?;
-        }
-        text.extend_from_slice(b"\n")
+        let word: &[u8] = if self.count == 1 { b" row" } else { b" rows" };
+        let (first, last) = (self.first.as_slice(), self.last.as_slice());
+        append_closing(text, u64::from(self.count), word, first, last)
     }
+}
 
-    /// Appends the line while rows come, after so many milliseconds: `40 of 96 rows, 2026-11-26T10:00:00, 12 a second`.
+/// What came of all that is to come.
+pub trait Seen {
+    /// Appends the line that is redrawn, after so many milliseconds.
+    fn append_progress(&self, text: &mut Vec<u8>, passed: u64) -> Result<(), AllocError>;
+}
+
+/// The bytes of a file that were read, and how many it has.
+#[derive(Clone, Copy)]
+pub struct BytesSeen {
+    pub done: u64,
+    pub all: u64,
+}
+
+impl Seen for BytesSeen {
+    /// As `1048576 of 4194304 bytes, 25 %`.
+    fn append_progress(&self, text: &mut Vec<u8>, _passed: u64) -> Result<(), AllocError> {
+        append_number(text, self.done)?;
+        text.extend_from_slice(b" of ")?;
+        append_number(text, self.all)?;
+        text.extend_from_slice(b" bytes, ")?;
+        append_number(text, self.done.saturating_mul(100) / self.all.max(1))?;
+        text.extend_from_slice(b" %")
+    }
+}
+
+impl Seen for RowsSeen {
+    /// As `40 of 96 rows, 2026-11-26T10:00:00, 12 a second`.
     fn append_progress(&self, text: &mut Vec<u8>, passed: u64) -> Result<(), AllocError> {
         append_number(text, u64::from(self.count))?;
         text.extend_from_slice(b" of ")?;
@@ -96,6 +110,27 @@ impl RowsSeen {
         append_number(text, thousands / passed)?;
         text.extend_from_slice(b" a second")
     }
+}
+
+/// Appends a closing line: how many rows there are, by this word, and the times of the first and the last one, if they have times.
+pub fn append_closing(
+    text: &mut Vec<u8>,
+    count: u64,
+    word: &[u8],
+    first: &[u8],
+    last: &[u8],
+) -> Result<(), AllocError> {
+    append_number(text, count)?;
+    text.extend_from_slice(word)?;
+    if !first.is_empty() {
+        text.extend_from_slice(b", ")?;
+        text.extend_from_slice(first)?;
+    }
+    if count > 1 && !last.is_empty() {
+        text.extend_from_slice(b" to ")?;
+        text.extend_from_slice(last)?;
+    }
+    text.extend_from_slice(b"\n")
 }
 
 /// Follows rows while they come.
@@ -117,7 +152,7 @@ impl Following for Unfollowed {
     fn end(&mut self, _seen: &RowsSeen, _is_whole: bool) {}
 }
 
-/// The progress of rows, on standard error.
+/// The line of progress, on standard error.
 #[derive(Drop)]
 pub struct Progress<'e, H, E> {
     host: &'e H,
@@ -184,10 +219,10 @@ impl<'e, H: Clock, E: Write> Progress<'e, H, E> {
     }
 
     /// Appends the line over the one that was drawn before it.
-    fn append_drawing(
+    fn append_drawing<S: Seen>(
         &mut self,
         text: &mut Vec<u8>,
-        seen: &RowsSeen,
+        seen: &S,
         passed: u64,
     ) -> Result<(), AllocError> {
         text.extend_from_slice(b"\r")?;
@@ -196,6 +231,33 @@ impl<'e, H: Clock, E: Write> Progress<'e, H, E> {
         append_blanks(text, self.width.saturating_sub(width))?;
         self.width = width;
         Ok(())
+    }
+
+    /// Draws the line again, at most ten times a second. Errors in writing are ignored.
+    pub fn show<S: Seen>(&mut self, seen: &S) {
+        if self.showing != Showing::Progress {
+            return;
+        }
+        let Some(passed) = self.passed() else {
+            return;
+        };
+        if !self.is_due(passed) {
+            return;
+        }
+        self.drawn = Some(passed);
+        let mut text = Vec::new(self.alloc);
+        if self.append_drawing(&mut text, seen, passed).is_ok() {
+            let _written = self.errors.write_all(text.as_slice());
+        }
+    }
+
+    /// Clears the line that was drawn. Errors in writing are ignored.
+    pub fn clear(&mut self) {
+        let mut text = Vec::new(self.alloc);
+        if self.append_clearing(&mut text).is_ok() {
+            let _written = self.errors.write_all(text.as_slice());
+        }
+        self.width = 0;
     }
 
     /// Appends what clears the line that was drawn.
@@ -225,19 +287,10 @@ impl<'e, H: Clock, E: Write> Progress<'e, H, E> {
 
 impl<H: Clock, E: Write> Following for Progress<'_, H, E> {
     fn follow(&mut self, seen: &RowsSeen) {
-        if self.showing != Showing::Progress {
-            return;
-        }
-        let Some(passed) = self.passed() else {
-            return;
-        };
-        if seen.count == 0 || !self.is_due(passed) {
-            return;
-        }
-        self.drawn = Some(passed);
-        let mut text = Vec::new(self.alloc);
-        if self.append_drawing(&mut text, seen, passed).is_ok() {
-            let _written = self.errors.write_all(text.as_slice());
+        if seen.count > 0 {
+            self.show(seen);
+        } else if self.showing == Showing::Progress {
+            let _begun = self.passed();
         }
     }
 

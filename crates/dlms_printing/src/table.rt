@@ -3,12 +3,11 @@
 use crate::buffer_rows::BufferRows;
 use crate::other_values::{append_float, is_float};
 use crate::progress::{RowsSeen, append_blanks};
-use crate::values::{append_code, append_labelled, put};
+use crate::typed::is_time;
+use crate::values::{Teller, append_code, append_labelled};
 use dlms_buffer::{BufferFault, Cell, Column, LastRow, append_cell, append_value};
 use dlms_faults::Fault;
 use dlms_names::{code_name, unit_name};
-use dlms_text::append_quoted;
-use dlms_values::Value;
 use dlms_words::TableFormat;
 use std::alloc::{AllocError, Global};
 use std::io::Write;
@@ -16,12 +15,8 @@ use std::io::Write;
 /// The attribute that is a column's usually, and is not named then.
 const USUAL: i8 = 2;
 
-/// The classes Clock, Extended register and Demand register (IEC 62056-6-2, Blue Book 4.5.1, 4.3.3, 4.3.4).
+/// The class Clock (IEC 62056-6-2, Blue Book 4.5.1).
 const CLOCK: u16 = 8;
-
-const EXTENDED: u16 = 4;
-
-const DEMAND: u16 = 5;
 
 /// The unit of a value without a unit.
 const COUNT: u8 = 255;
@@ -50,15 +45,12 @@ impl ColumnShape {
     }
 
     /// Whether its values are times.
-    fn has_times(&self) -> bool {
-        match (self.column.class, self.column.attribute) {
-            (CLOCK, 2) | (EXTENDED, 5) | (DEMAND, 6) | (DEMAND, 7) => true,
-            _ => false,
-        }
+    pub fn has_times(&self) -> bool {
+        is_time(self.column.class, i16::from(self.column.attribute))
     }
 
     /// The name of its unit, if it has one.
-    fn unit(&self) -> Option<&'static str> {
+    pub fn unit(&self) -> Option<&'static str> {
         match self.unit {
             Some(COUNT) | None => None,
             Some(unit) => unit_name(unit),
@@ -82,45 +74,17 @@ impl ColumnShape {
         }
         Ok(())
     }
-
-    /// Appends it as an object of JSON.
-    fn append_json(&self, text: &mut Vec<u8>) -> Result<(), AllocError> {
-        text.extend_from_slice(b"{\"name\":\"")?;
-        append_code(text, self.column.name)?;
-        append_labelled(
-            text,
-            b"\",\"attribute\":",
-            u64::from(self.column.attribute.unsigned_abs()),
-        )?;
-        append_labelled(text, b",\"class\":", u64::from(self.column.class))?;
-        if let Some(name) = code_name(self.column.name) {
-            text.extend_from_slice(b",\"title\":")?;
-            append_quoted(text, name.as_bytes())?;
-        }
-        if let Some(unit) = self.unit() {
-            text.extend_from_slice(b",\"unit\":")?;
-            append_quoted(text, unit.as_bytes())?;
-        }
-        text.extend_from_slice(b"}")
-    }
 }
 
-/// The columns of a table, the capture period in seconds, whether values are printed as the meter sends them, and how many of the
+/// The profile of a table, its columns, the capture period in seconds, whether values are printed as the meter sends them, and how many of the
 /// last rows are printed, if not all of them are.
 #[derive(Clone, Copy)]
 pub struct Table<'p> {
+    pub code: [u8; 6],
     pub shapes: &'p [ColumnShape],
     pub period: u32,
     pub raw: bool,
     pub last: Option<u32>,
-}
-
-/// Whether a value is a number of JSON.
-fn is_number(value: &Value<'_>) -> bool {
-    matches!(
-        value,
-        Value::Signed(..) | Value::Unsigned(..) | Value::Float32(_) | Value::Float64(_)
-    )
 }
 
 /// Appends a field of CSV (RFC 4180): in quotes if it has a comma, a quote or a line end.
@@ -196,27 +160,25 @@ impl<'p> Table<'p> {
         seen.note(time.as_slice())
     }
 
-    /// Appends a cell of JSON: a number, a truth value, null, or a string.
-    fn append_json_cell(
+    /// Appends a field after those before it: of CSV after a comma, of a table with blanks up to the next column.
+    fn append_part(
         &self,
-        alloc: Global,
         text: &mut Vec<u8>,
-        field: &mut Vec<u8>,
-        shape: &ColumnShape,
-        cell: &Cell<'_>,
+        format: TableFormat,
+        widths: &[usize],
+        at: usize,
+        field: &[u8],
     ) -> Result<(), AllocError> {
-        self.append_cell(alloc, field, shape, cell)?;
-        let is_bare = is_number(&cell.value) && field.as_slice() != b"NaN".as_slice();
-        match cell.value {
-            Value::Boolean(_) => text.extend_from_slice(field.as_slice()),
-            Value::Null | Value::DontCare => text.extend_from_slice(b"null"),
-            _ if is_bare => text.extend_from_slice(field.as_slice()),
-            _ if is_number(&cell.value) => text.extend_from_slice(b"null"),
-            _ => append_quoted(text, field.as_slice()),
+        if format != TableFormat::Csv {
+            return append_padded(text, field, widths, at);
         }
+        if at > 0 {
+            text.extend_from_slice(b",")?;
+        }
+        append_field(text, field)
     }
 
-    /// Appends a row of JSON, or of CSV, or of a table with these widths.
+    /// Appends a row of CSV, or of a table with these widths.
     fn append_row(
         &self,
         alloc: Global,
@@ -228,31 +190,13 @@ impl<'p> Table<'p> {
         let mut field = Vec::new(alloc);
         for (at, (shape, cell)) in self.shapes.iter().zip(cells.iter()).enumerate() {
             field.clear();
-            let is_first = at == 0;
-            match format {
-                TableFormat::Json => {
-                    text.extend_from_slice(if is_first { b"[" } else { b"," })?;
-                    self.append_json_cell(alloc, text, &mut field, shape, cell)?;
-                }
-                TableFormat::Csv => {
-                    text.extend_from_slice(if is_first { b"" } else { b"," })?;
-                    self.append_cell(alloc, &mut field, shape, cell)?;
-                    append_field(text, field.as_slice())?;
-                }
-                TableFormat::Table => {
-                    self.append_cell(alloc, &mut field, shape, cell)?;
-                    append_padded(text, field.as_slice(), widths, at)?;
-                }
-            }
+            self.append_cell(alloc, &mut field, shape, cell)?;
+            self.append_part(text, format, widths, at, field.as_slice())?;
         }
-        text.extend_from_slice(if format == TableFormat::Json {
-            b"]"
-        } else {
-            b"\n"
-        })
+        text.extend_from_slice(b"\n")
     }
 
-    /// Appends what stands before the rows.
+    /// Appends the titles of CSV, or of a table with these widths.
     pub fn append_head(
         &self,
         alloc: Global,
@@ -260,34 +204,13 @@ impl<'p> Table<'p> {
         format: TableFormat,
         widths: &[usize],
     ) -> Result<(), AllocError> {
-        if format == TableFormat::Json {
-            text.extend_from_slice(b"\"columns\":[")?;
-        }
         let mut field = Vec::new(alloc);
         for (at, shape) in self.shapes.iter().enumerate() {
             field.clear();
-            let comma: &[u8] = if at > 0 { b"," } else { b"" };
-            match format {
-                TableFormat::Json => {
-                    text.extend_from_slice(comma)?;
-                    shape.append_json(text)?;
-                }
-                TableFormat::Csv => {
-                    text.extend_from_slice(comma)?;
-                    shape.append_title(&mut field)?;
-                    append_field(text, field.as_slice())?;
-                }
-                TableFormat::Table => {
-                    shape.append_title(&mut field)?;
-                    append_padded(text, field.as_slice(), widths, at)?;
-                }
-            }
+            shape.append_title(&mut field)?;
+            self.append_part(text, format, widths, at, field.as_slice())?;
         }
-        text.extend_from_slice(if format == TableFormat::Json {
-            b"],\n\"rows\":["
-        } else {
-            b"\n"
-        })
+        text.extend_from_slice(b"\n")
     }
 
     /// The widths of the titles.
@@ -342,41 +265,21 @@ impl<'p> Table<'p> {
         Ok(count)
     }
 
-    /// Prints the rows of a buffer after the first `skipped` ones.
-    fn put_rows<'a, W: Write>(
+    /// Prints a row, and sends it out.
+    fn put_row<'a, W: Write>(
         &self,
-        alloc: Global,
-        name: &'a str,
+        teller: &mut Teller<'a, '_, W>,
         format: TableFormat,
-        bytes: &[u8],
         widths: &[usize],
-        skipped: u32,
-        output: &mut W,
-        seen: &mut RowsSeen,
+        is_first: bool,
+        cells: &[Cell<'_>],
     ) -> Result<(), Fault<'a>> {
-        let mut rows = match BufferRows::of(bytes) {
-            Ok(rows) => rows,
-            Err(fault) => return Err(Fault::of_buffer(name, fault)),
-        };
-        let mut row = LastRow::new(alloc, self.shapes.len())?;
-        let mut text = Vec::new(alloc);
-        for at in 0..u32::MAX {
-            match rows.next_row(alloc, &mut row) {
-                Ok(true) => {}
-                Ok(false) => break,
-                Err(fault) => return Err(Fault::of_buffer(name, fault)),
-            }
-            if at >= skipped {
-                text.clear();
-                if format == TableFormat::Json {
-                    text.extend_from_slice(if at > skipped { b",\n" } else { b"\n" })?;
-                }
-                self.append_row(alloc, &mut text, format, widths, row.cells.as_slice())?;
-                put(output, text.as_slice())?;
-                self.note(alloc, row.cells.as_slice(), seen)?;
-            }
+        if format == TableFormat::Json {
+            self.put_row_json(teller, is_first, cells)?;
+        } else {
+            self.append_row(teller.alloc, &mut teller.text, format, widths, cells)?;
         }
-        Ok(())
+        teller.flush()
     }
 
     /// Prints the rows in the whole encoding of a buffer, and notes them.
@@ -398,26 +301,61 @@ impl<'p> Table<'p> {
             Some(last) => count.saturating_sub(last),
             None => 0,
         };
-        let mut text = Vec::new(alloc);
-        if format == TableFormat::Json {
-            text.extend_from_slice(b"{\"name\":")?;
-            append_quoted(&mut text, name.as_bytes())?;
-            text.extend_from_slice(b",")?;
+        let mut teller = Teller::new(alloc, name, output);
+        teller.put_table(self, format, bytes, widths.as_slice(), skipped, seen)
+    }
+}
+
+impl<'a, W: Write> Teller<'a, '_, W> {
+    /// Prints the head of a table, the rows of a buffer after the first `skipped` ones, and of JSON the end.
+    fn put_table(
+        &mut self,
+        table: &Table<'_>,
+        format: TableFormat,
+        bytes: &[u8],
+        widths: &[usize],
+        skipped: u32,
+        seen: &mut RowsSeen,
+    ) -> Result<(), Fault<'a>> {
+        if format != TableFormat::Json {
+            table.append_head(self.alloc, &mut self.text, format, widths)?;
+            self.flush()?;
+            return self.put_rows(table, format, bytes, widths, skipped, seen);
         }
-        self.append_head(alloc, &mut text, format, widths.as_slice())?;
-        put(output, text.as_slice())?;
-        self.put_rows(
-            alloc,
-            name,
-            format,
-            bytes,
-            widths.as_slice(),
-            skipped,
-            output,
-            seen,
-        )?;
-        if format == TableFormat::Json {
-            put(output, b"\n]}\n")?;
+        table.append_head_json(&mut self.text)?;
+        self.flush()?;
+        self.put_rows(table, format, bytes, widths, skipped, seen)?;
+        self.text.extend_from_slice(b"\n]}\n")?;
+        self.flush()
+    }
+
+    /// Prints the rows of a buffer after the first `skipped` ones.
+    fn put_rows(
+        &mut self,
+        table: &Table<'_>,
+        format: TableFormat,
+        bytes: &[u8],
+        widths: &[usize],
+        skipped: u32,
+        seen: &mut RowsSeen,
+    ) -> Result<(), Fault<'a>> {
+        let alloc = self.alloc;
+        let mut rows = match BufferRows::of(bytes) {
+            Ok(rows) => rows,
+            Err(fault) => return Err(Fault::of_buffer(self.place, fault)),
+        };
+        let mut row = LastRow::new(alloc, table.shapes.len())?;
+        for at in 0..u32::MAX {
+            match rows.next_row(alloc, &mut row) {
+                Ok(true) => {}
+                Ok(false) => break,
+                Err(fault) => return Err(Fault::of_buffer(self.place, fault)),
+            }
+            if at >= skipped {
+                let cells = row.cells.as_slice();
+                table.put_row(self, format, widths, at == skipped, cells)?;
+                table.note(alloc, cells, seen)?;
+            }
         }
         Ok(())
     }

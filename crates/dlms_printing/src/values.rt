@@ -1,22 +1,20 @@
 //! The output for a meter's values and objects.
 
-use crate::objects::{append_object, append_object_json};
-use crate::other_values::{append_any_json, append_float, append_other, float_in};
+use crate::other_values::{append_float, append_other, float_in};
 use dlms_call::CallFault;
 use dlms_data::{Data, Descriptor};
 use dlms_explain::write_value;
 use dlms_faults::Fault;
 use dlms_names::unit_name;
 use dlms_text::{
-    Front, ValueFault, append_decimal, append_number, append_pairs, append_quoted, first_of,
-    front_of, value_at,
+    Front, ValueFault, append_decimal, append_number, append_pairs, front_of, value_at,
 };
-use dlms_words::{OutputFormat, ValueFormat};
+use dlms_words::ValueFormat;
 use std::alloc::{AllocError, Global};
 use std::io::Write;
 
 /// How many octets of text go out at a time, and of an encoding in digits.
-const PIECE: usize = 32_768;
+pub const PIECE: usize = 32_768;
 
 /// How many levels of arrays and structures a value has at most.
 const MOST_LEVELS: u8 = 8;
@@ -104,22 +102,6 @@ pub fn append_code(text: &mut Vec<u8>, code: [u8; 6]) -> Result<(), AllocError> 
         append_number(text, u64::from(*group))?;
     }
     Ok(())
-}
-
-/// Appends an attribute as the front of an object of JSON.
-fn append_attribute_json(text: &mut Vec<u8>, attribute: Descriptor) -> Result<(), AllocError> {
-    text.extend_from_slice(b"{\"name\":\"")?;
-    append_code(text, attribute.name)?;
-    append_labelled(text, b"\",\"attribute\":", u64::from(attribute.id))?;
-    append_labelled(text, b",\"class\":", u64::from(attribute.class))
-}
-
-/// Appends a scaler and a unit as a part of an object of JSON.
-fn append_scale_json(text: &mut Vec<u8>, scaler: i8, unit: u8) -> Result<(), AllocError> {
-    text.extend_from_slice(b",\"scaler\":")?;
-    append_decimal(text, scaler < 0, u64::from(scaler.unsigned_abs()), 0)?;
-    text.extend_from_slice(b",\"unit\":")?;
-    append_quoted(text, unit_name(unit).unwrap_or("").as_bytes())
 }
 
 /// Appends a field of a date-time in two digits; `*` if it is not specified.
@@ -212,9 +194,9 @@ fn append_head(text: &mut Vec<u8>, depth: u8, kind: &[u8], count: u32) -> Result
 /// Prints values by their encodings. What is printed of one goes out piece by piece, so that it takes no memory as long as it is.
 #[derive(Drop)]
 pub struct Teller<'a, 'o, W> {
-    alloc: Global,
-    place: &'a str,
-    text: Vec<u8>,
+    pub(crate) alloc: Global,
+    pub(crate) place: &'a str,
+    pub(crate) text: Vec<u8>,
     output: &'o mut W,
 }
 
@@ -230,7 +212,7 @@ impl<'a, 'o, W: Write> Teller<'a, 'o, W> {
     }
 
     /// The fault of a value that could not be printed.
-    fn fault(&self, fault: ValueFault) -> Fault<'a> {
+    pub(crate) fn fault(&self, fault: ValueFault) -> Fault<'a> {
         match fault {
             ValueFault::Form => Fault::of_call(
                 self.place,
@@ -241,14 +223,14 @@ impl<'a, 'o, W: Write> Teller<'a, 'o, W> {
     }
 
     /// Writes out the text.
-    fn flush(&mut self) -> Result<(), Fault<'a>> {
+    pub(crate) fn flush(&mut self) -> Result<(), Fault<'a>> {
         let put = put(self.output, self.text.as_slice());
         self.text.clear();
         put
     }
 
     /// Writes out the text if it is long.
-    fn flush_long(&mut self) -> Result<(), Fault<'a>> {
+    pub(crate) fn flush_long(&mut self) -> Result<(), Fault<'a>> {
         if self.text.len() < PIECE {
             return Ok(());
         }
@@ -268,7 +250,7 @@ impl<'a, 'o, W: Write> Teller<'a, 'o, W> {
 
     /// Prints a value in words.
     pub fn put_words(&mut self, bytes: &[u8]) -> Result<(), Fault<'a>> {
-        let _rest = tell_tree(self, MOST_LEVELS, bytes)?;
+        put_tree(self, bytes)?;
         self.flush()
     }
 
@@ -332,25 +314,6 @@ impl<'a, 'o, W: Write> Teller<'a, 'o, W> {
         }
     }
 
-    /// Prints the value of an attribute as an object of JSON, and a line feed.
-    fn put_json(
-        &mut self,
-        attribute: Descriptor,
-        bytes: &[u8],
-        scaled: Option<(i8, u8)>,
-    ) -> Result<(), Fault<'a>> {
-        append_attribute_json(&mut self.text, attribute)?;
-        self.text.extend_from_slice(b",\"value\":")?;
-        if let Err(fault) = append_any_json(self.alloc, &mut self.text, MOST_LEVELS, bytes) {
-            return Err(self.fault(fault));
-        }
-        if let Some((scaler, unit)) = scaled {
-            append_scale_json(&mut self.text, scaler, unit)?;
-        }
-        self.text.extend_from_slice(b"}\n")?;
-        self.flush()
-    }
-
     /// Prints the value of an attribute, and for a number its scaler and its unit if it has them.
     pub fn put_value(
         &mut self,
@@ -365,65 +328,6 @@ impl<'a, 'o, W: Write> Teller<'a, 'o, W> {
             (ValueFormat::Text, Some((scaler, unit))) => self.put_scaled(bytes, scaler, unit),
             (ValueFormat::Text, None) => self.put_words(bytes),
         }
-    }
-
-    /// Prints the line of an element of an object list: of one that has another form its value in words.
-    fn put_object(&mut self, element: &[u8]) -> Result<(), Fault<'a>> {
-        match append_object(self.alloc, &mut self.text, element) {
-            Ok(true) => self.flush_long(),
-            Ok(false) => {
-                let _rest = tell_tree(self, MOST_LEVELS, element)?;
-                Ok(())
-            }
-            Err(fault) => Err(self.fault(fault)),
-        }
-    }
-
-    /// Prints an element of an object list as an object of JSON, or null if it has another form.
-    fn put_object_json(&mut self, is_first: bool, element: &[u8]) -> Result<(), Fault<'a>> {
-        if !is_first {
-            self.text.extend_from_slice(b",\n ")?;
-        }
-        match append_object_json(self.alloc, &mut self.text, element) {
-            Ok(()) => self.flush_long(),
-            Err(fault) => Err(self.fault(fault)),
-        }
-    }
-
-    /// Prints so many elements of an object list.
-    fn put_elements(
-        &mut self,
-        count: u32,
-        bytes: &[u8],
-        format: OutputFormat,
-    ) -> Result<(), Fault<'a>> {
-        let mut rest = bytes;
-        for at in 0..count {
-            let Some((element, behind)) = first_of(rest) else {
-                return Err(self.fault(ValueFault::Form));
-            };
-            match format {
-                OutputFormat::Json => self.put_object_json(at == 0, element)?,
-                OutputFormat::Text => self.put_object(element)?,
-            }
-            rest = behind;
-        }
-        Ok(())
-    }
-
-    /// Prints an object list, a line an element or as an array of JSON.
-    pub fn put_objects(&mut self, list: &[u8], format: OutputFormat) -> Result<(), Fault<'a>> {
-        let (Front::Array(count), rest) = front_of(list) else {
-            return Err(self.fault(ValueFault::Form));
-        };
-        if format == OutputFormat::Json {
-            self.text.extend_from_slice(b"[")?;
-        }
-        self.put_elements(count, rest, format)?;
-        if format == OutputFormat::Json {
-            self.text.extend_from_slice(b"]\n")?;
-        }
-        self.flush()
     }
 }
 
@@ -464,4 +368,13 @@ fn tell_tree<'a, 'b, W: Write>(
         (Front::Structure(count), rest) => tell_items(teller, room, b"structure of ", count, rest),
         (Front::Plain, rest) => teller.tell_leaf(MOST_LEVELS.saturating_sub(room), rest),
     }
+}
+
+/// The lines of the value that is all of an encoding.
+pub fn put_tree<'a, W: Write>(
+    teller: &mut Teller<'a, '_, W>,
+    bytes: &[u8],
+) -> Result<(), Fault<'a>> {
+    let _rest = tell_tree(teller, MOST_LEVELS, bytes)?;
+    Ok(())
 }

@@ -1,0 +1,286 @@
+//! What only looks: at frames, at a meter's file, at a curve of readings.
+
+use crate::outcome::showing_for;
+use crate::{Fault, Terminals, buffer_input, buffer_output, result_with_flush};
+use dlms_asking::{LAST_OF_DAY, MIDNIGHT, second_in, stations_of};
+use dlms_data::LAST_SECOND;
+use dlms_explain::{ExplainFault, Form as ExplainForm, Layout, Painted, explain_with};
+use dlms_plot::{Choice, Form, Quantity, plot_chosen};
+use dlms_printing::{BytesSeen, Progress, Showing};
+use dlms_security::{NoKeys, Opener};
+use dlms_show::{Curve, ShowFault, show_file, show_file_as_json};
+use dlms_words::{ColorChoice, ExplainOptions, OutputFormat, PlotOptions, ShowOptions};
+use std::alloc::Global;
+use std::fs::File;
+use std::io::{Read, Write};
+use std::rt::Files;
+use std::time::Clock;
+use std::{fs, io};
+
+/// The name of the input in messages, and the file name that means the input.
+const INPUT: &str = "standard input";
+
+const INPUT_NAME: &str = "-";
+
+/// The fewest bytes of a file whose progress is shown.
+const LEAST_SHOWN: u64 = 1_048_576;
+
+/// The file's name, unless it is the one that means standard input.
+fn named_file(file: Option<&str>) -> Option<&str> {
+    file.filter(|name| *name != INPUT_NAME)
+}
+
+/// How an explanation is written, and who looks at it.
+#[derive(Clone, Copy)]
+struct Looking {
+    form: ExplainForm,
+    is_colored: bool,
+    showing: Showing,
+}
+
+/// How these options want an explanation written for these terminals.
+fn looking_by(options: &ExplainOptions<'_>, terminals: Terminals) -> Looking {
+    Looking {
+        form: ExplainForm {
+            layout: match (options.format, options.short) {
+                (OutputFormat::Json, _) => Layout::Json,
+                (OutputFormat::Text, true) => Layout::Short,
+                (OutputFormat::Text, false) => Layout::Full,
+            },
+            raw: options.raw,
+            hex: options.hex,
+        },
+        is_colored: match options.color {
+            ColorChoice::Auto => terminals.output && !terminals.is_plain,
+            ColorChoice::Always => true,
+            ColorChoice::Never => false,
+        },
+        showing: showing_for(terminals, options.quiet),
+    }
+}
+
+/// Explains the frames in a file, or on the input if no file is given.
+#[inline(never)]
+pub fn run_explain<
+    'a,
+    H: Files<File = File> + Clock + AllocGlobal,
+    R: Read + Drop,
+    W: Write,
+    E: Write,
+>(
+    host: &H,
+    options: &ExplainOptions<'a>,
+    input: R,
+    output: &mut W,
+    errors: &mut E,
+    terminals: Terminals,
+) -> Result<(), Fault<'a>> {
+    let looking = looking_by(options, terminals);
+    let file = options.file;
+    let Some(keys) = options.keys else {
+        return explain_file(host, looking, NoKeys, file, input, output, errors);
+    };
+    let stations = stations_of(host, keys)?;
+    let told = explain_file(host, looking, &stations, file, input, output, errors);
+    drop(stations);
+    told
+}
+
+/// The same, with what opens ciphered APDUs.
+#[inline(never)]
+fn explain_file<
+    'a,
+    H: Files<File = File> + Clock + AllocGlobal,
+    O: Opener,
+    R: Read + Drop,
+    W: Write,
+    E: Write,
+>(
+    host: &H,
+    looking: Looking,
+    opener: O,
+    file: Option<&'a str>,
+    input: R,
+    output: &mut W,
+    errors: &mut E,
+) -> Result<(), Fault<'a>> {
+    let Some(file) = named_file(file) else {
+        return explain_input(host, looking, opener, INPUT, input, output);
+    };
+    match fs::open(host, file) {
+        Ok(opened) => {
+            let all = match opened.metadata() {
+                Ok(metadata) => metadata.len(),
+                Err(_) => 0,
+            };
+            let showing = if all < LEAST_SHOWN {
+                Showing::Nothing
+            } else {
+                looking.showing
+            };
+            let mut progress = Progress::new(host, host.alloc(), errors, showing);
+            let followed = Followed {
+                reader: opened,
+                seen: BytesSeen { done: 0, all },
+                progress: &mut progress,
+            };
+            let told = explain_input(host, looking, opener, file, followed, output);
+            progress.clear();
+            told
+        }
+        Err(error) => Err(Fault::of_system(host.alloc(), file, &error)),
+    }
+}
+
+/// A reader of which it is shown how far it has come.
+#[derive(Drop)]
+struct Followed<'p, 'e, R: Drop, H, E> {
+    reader: R,
+    seen: BytesSeen,
+    progress: &'p mut Progress<'e, H, E>,
+}
+
+impl<R: Read + Drop, H: Clock, E: Write> Read for Followed<'_, '_, R, H, E> {
+    fn read(&mut self, buf: &mut [u8]) -> io::Result<usize> {
+        let count = self.reader.read(buf)?;
+        self.seen.done = self.seen.done.saturating_add(count as u64);
+        self.progress.show(&self.seen);
+        Ok(count)
+    }
+}
+
+/// Explains the frames on an input. The explanation of a line is written before the next line is waited for.
+fn explain_input<'a, H: AllocGlobal, O: Opener, R: Read + Drop, W: Write>(
+    host: &H,
+    looking: Looking,
+    opener: O,
+    place: &'a str,
+    input: R,
+    output: &mut W,
+) -> Result<(), Fault<'a>> {
+    let alloc = host.alloc();
+    let mut reader = buffer_input(alloc, input)?;
+    let form = looking.form;
+    let mut painted = Painted::new(alloc, output, form.layout, looking.is_colored);
+    let explained = match explain_with(alloc, form, opener, &mut reader, &mut painted) {
+        Ok(()) => Ok(()),
+        Err(ExplainFault::Memory) => Err(Fault::MEMORY),
+        Err(ExplainFault::Input) => Err(Fault::Input(place)),
+        Err(ExplainFault::Output) => Err(Fault::Output),
+    };
+    let told = result_with_flush(explained, painted.flush());
+    drop(painted);
+    drop(reader);
+    told
+}
+
+/// Shows the contents of a meter's file, and the curve of its load profile if it is asked for.
+#[inline(never)]
+pub fn run_show<'a, H: Files<File = File> + AllocGlobal, W: Write + Drop>(
+    host: &H,
+    options: &ShowOptions<'a>,
+    output: W,
+) -> Result<(), Fault<'a>> {
+    let file = options.file;
+    let mut writer = buffer_output(host.alloc(), output)?;
+    let curve = if options.plot {
+        Curve::Text
+    } else {
+        Curve::None
+    };
+    let shown = match options.format {
+        OutputFormat::Json => show_file_as_json(host, file, &mut writer),
+        OutputFormat::Text => show_file(host, file, curve, &mut writer),
+    };
+    let shown = match shown {
+        Ok(()) => Ok(()),
+        Err(ShowFault::File(error)) => Err(Fault::of_system(host.alloc(), file, &error)),
+        Err(ShowFault::Memory) => Err(Fault::MEMORY),
+        Err(ShowFault::Output) => Err(Fault::Output),
+    };
+    result_with_flush(shown, writer.flush())
+}
+
+/// The text that was read at a place.
+fn text_at<'a>(
+    alloc: Global,
+    place: &'a str,
+    read: io::Result<String>,
+) -> Result<(&'a str, String), Fault<'a>> {
+    match read {
+        Ok(text) => Ok((place, text)),
+        Err(error) => Err(Fault::of_system(alloc, place, &error)),
+    }
+}
+
+/// The text of a readings file, or of the input if its name says so, and its name for messages.
+fn readings_text<'a, H: Files + AllocGlobal, R: Read + Drop>(
+    host: &H,
+    readings: &'a str,
+    input: R,
+) -> Result<(&'a str, String), Fault<'a>> {
+    match named_file(Some(readings)) {
+        Some(file) => {
+            let text = text_at(host.alloc(), file, fs::read_to_string(host, file));
+            drop(input);
+            text
+        }
+        None => text_at(host.alloc(), INPUT, io::read_to_string(host.alloc(), input)),
+    }
+}
+
+/// The second of the clock that a text names, or this one if there is no text.
+fn second_or<'a>(text: Option<&'a str>, time: &str, other: u32) -> Result<u32, Fault<'a>> {
+    match text {
+        Some(text) => second_in(text, time).ok_or(Fault::Time(text)),
+        None => Ok(other),
+    }
+}
+
+/// The register and the rows that these options choose.
+fn choice_by<'a>(options: &PlotOptions<'a>) -> Result<Choice, Fault<'a>> {
+    let quantity = match options.register {
+        Some(register) => Some(Quantity::named(register).ok_or(Fault::Register(register))?),
+        None => None,
+    };
+    Ok(Choice {
+        quantity,
+        from: second_or(options.from, MIDNIGHT, 0)?,
+        to: second_or(options.to, LAST_OF_DAY, LAST_SECOND)?,
+    })
+}
+
+/// Plots the load profile of the readings in a text, which comes from this place.
+fn plot_text<'a, W: Write + Drop>(
+    alloc: Global,
+    place: &'a str,
+    text: &str,
+    choice: &Choice,
+    form: Form,
+    output: W,
+) -> Result<(), Fault<'a>> {
+    let mut writer = buffer_output(alloc, output)?;
+    let plotted = match plot_chosen(alloc, text, choice, form, &mut writer) {
+        Ok(()) => Ok(()),
+        Err(fault) => Err(Fault::of_plot(place, fault)),
+    };
+    result_with_flush(plotted, writer.flush())
+}
+
+/// Plots the load profile of a readings file.
+#[inline(never)]
+pub fn run_plot<'a, H: Files + AllocGlobal, R: Read + Drop, W: Write + Drop>(
+    host: &H,
+    options: &PlotOptions<'a>,
+    input: R,
+    output: W,
+) -> Result<(), Fault<'a>> {
+    let choice = choice_by(options)?;
+    let (place, text) = readings_text(host, options.readings, input)?;
+    let form = match (options.format, options.svg) {
+        (OutputFormat::Json, _) => Form::Json,
+        (OutputFormat::Text, true) => Form::Svg,
+        (OutputFormat::Text, false) => Form::Text,
+    };
+    plot_text(host.alloc(), place, text.as_str(), &choice, form, output)
+}
