@@ -118,31 +118,32 @@ fn explain_file<
             } else {
                 looking.showing
             };
-            let mut progress = Progress::new(host, host.alloc(), errors, showing);
             let followed = Followed {
                 reader: opened,
                 seen: BytesSeen { done: 0, all },
-                progress: &mut progress,
+                progress: Progress::new(host, host.alloc(), errors, showing),
             };
-            let told = explain_input(host, looking, opener, file, followed, output);
-            progress.clear();
-            told
+            explain_input(host, looking, opener, file, followed, output)
         }
         Err(error) => Err(Fault::of_system(host.alloc(), file, &error)),
     }
 }
 
-/// A reader of which it is shown how far it has come.
+/// A reader whose progress is shown until its end.
 #[derive(Drop)]
-struct Followed<'p, 'e, R: Drop, H, E> {
+struct Followed<'e, R: Drop, H, E> {
     reader: R,
     seen: BytesSeen,
-    progress: &'p mut Progress<'e, H, E>,
+    progress: Progress<'e, H, E>,
 }
 
-impl<R: Read + Drop, H: Clock, E: Write> Read for Followed<'_, '_, R, H, E> {
+impl<R: Read + Drop, H: Clock, E: Write> Read for Followed<'_, R, H, E> {
     fn read(&mut self, buf: &mut [u8]) -> io::Result<usize> {
         let count = self.reader.read(buf)?;
+        if count == 0 {
+            self.progress.clear();
+            return Ok(0);
+        }
         self.seen.done = self.seen.done.saturating_add(count as u64);
         self.progress.show(&self.seen);
         Ok(count)
