@@ -6,7 +6,7 @@ use Rattle.clap.specs.Kinds.{HasKind, IsAmong, Kinds}
 use Rattle.clap.specs.declared.error.Error.{Error}
 use Rattle.clap.specs.declared.error.kind.ErrorKind.{ErrorKind}
 use Rattle.clap.specs.declared.error.kind.ErrorKind.TheVariants.{OutOfMemory}
-use Rattle.dlms_words.specs.Words.{AsksBoth, IsUnclear, Met, NamesNoAddress}
+use Rattle.dlms_words.specs.Words.{AsksBoth, IsInvalid, IsUnclear, Met}
 
 -- a kind that is among some, of which there are any then
 some_kind : (kinds : Kinds) (k : ErrorKind) → IsAmong k kinds → kinds ≢ []
@@ -14,7 +14,7 @@ some_kind [] k among = absurd among
 some_kind (x ∷ xs) k among = λ e. cc
 
 -- an error that is no want of memory
-pub is_usage : (kinds : Kinds) (met : Met) (e : Error) → (kind_of e ≡ OutOfMemory → ⊥) → HasKind kinds e ⊎ IsUnclear met e → (kinds ≢ []) ⊎ AsksBoth met ⊎ NamesNoAddress met
+pub is_usage : (kinds : Kinds) (met : Met) (e : Error) → (kind_of e ≡ OutOfMemory → ⊥) → HasKind kinds e ⊎ IsUnclear met e → (kinds ≢ []) ⊎ AsksBoth met ⊎ IsInvalid met
 is_usage kinds met e found (inl (inl memory)) = absurd (found memory)
 is_usage kinds met e found (inl (inr among)) = inl (some_kind kinds (kind_of e) among)
 is_usage kinds met e found (inr (inl both)) = inr (inl both.0)

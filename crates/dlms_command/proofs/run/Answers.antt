@@ -12,7 +12,7 @@ returns-clause-usage g c = λ _.
     (λ (memory : kind_of c.in-Err-2.error ≡ OutOfMemory). absurd (search rules)) c.in-Err-2.ensures.fault
 
 pub returns-in-Ok-clause-usage : goal.returns-in-Ok-clause-usage
-returns-in-Ok-clause-usage g c = not_usage c.finish.result c.outcome.result _ c.finish.ensures
+returns-in-Ok-clause-usage g c = not_usage c.finish.result c.outcome-ended.result _ c.finish.ensures
 
 pub returns-in-Ok-clause-done : goal.returns-in-Ok-clause-done
 returns-in-Ok-clause-done g c =
