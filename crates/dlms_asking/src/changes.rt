@@ -11,7 +11,7 @@ use dlms_words::OutputFormat;
 use std::alloc::Global;
 use std::io::Write;
 
-/// What was changed: the attribute or the method, the clock that it belongs to, if it is one's, and what that showed before.
+/// A change of the meter: the attribute or the method, its clock if it belongs to one, and the clock's time before the change.
 #[derive(Clone, Copy)]
 struct Change {
     of: Descriptor,
@@ -102,7 +102,7 @@ impl<'a, S: End> MeterSession<'a, '_, S> {
         told
     }
 
-    /// Prints what was changed. `returned` is the encoding that a method returned, or empty.
+    /// Prints a change. `returned` is the encoding of the value that a method returned; it is empty if there is none.
     fn put_change<W: Write>(
         &mut self,
         said: &'a str,
@@ -117,7 +117,7 @@ impl<'a, S: End> MeterSession<'a, '_, S> {
         }
     }
 
-    /// The lines for what was changed.
+    /// Prints a change as text.
     fn put_text<W: Write>(
         &mut self,
         said: &'a str,
@@ -141,7 +141,7 @@ impl<'a, S: End> MeterSession<'a, '_, S> {
         put_clock(self.alloc, output, of.name, change.before, after)
     }
 
-    /// The object for what was changed. If the clock cannot be read after that, the object comes all the same.
+    /// Prints a change as an object of JSON, also if the clock cannot be read after the change.
     fn put_json<W: Write>(
         &mut self,
         said: &'a str,

@@ -6,7 +6,7 @@ use dlms_words::{Job, OutputFormat, TableFormat, ValueFormat};
 use std::alloc::Global;
 use std::io;
 
-/// What is shown of the progress of a command: nothing if nobody watches the errors; only a line at the end if what is printed goes to
+/// How a command shows its progress: not at all unless standard error is a terminal, and only by a line at the end if the output goes to
 /// a terminal too.
 pub fn showing_for(terminals: Terminals, is_quiet: bool) -> Showing {
     match terminals {

@@ -1,4 +1,4 @@
-//! Attributes and methods as objects of JSON: the value that one has, or what came of a request.
+//! The value of an attribute, and the result of a SET or an ACTION, as objects of JSON.
 
 use crate::typed::{append_time, is_time};
 use crate::values::{Teller, append_code, append_labelled};
