@@ -10,7 +10,7 @@ use dlms_plot::{Iso, Quantity};
 use dlms_state::State;
 use dlms_store::{JOURNAL, JOURNAL_PAGES, PAGES};
 use dlms_survey::{Image, Judge, Place, Recovery, Survey, place_of};
-use dlms_text::{append_number, append_pairs, append_quoted};
+use dlms_text::{append_number, append_pairs, append_quoted, append_text};
 use std::alloc::{AllocError, Allocator};
 use std::fmt::Display;
 use std::io::Write;
@@ -216,22 +216,8 @@ fn put_text<A: Allocator + Copy>(json: &mut Json<A>, octets: &[u8]) -> Result<()
         return json.push(b"\"");
     }
     json.push(b",\"text\":\"")?;
-    for octet in octets {
-        put_octet(json, *octet)?;
-    }
+    append_text(&mut json.text, octets)?;
     json.push(b"\"")
-}
-
-/// An octet of a text in UTF-8, escaped if JSON does not allow it between quotes.
-fn put_octet<A: Allocator + Copy>(json: &mut Json<A>, octet: u8) -> Result<(), AllocError> {
-    if octet == b'"' || octet == b'\\' {
-        return json.push(&[b'\\', octet]);
-    }
-    if octet < b' ' {
-        json.push(b"\\u00")?;
-        return append_pairs(&mut json.text, &[octet]);
-    }
-    json.push(&[octet])
 }
 
 /// What a recovery finds: the state and the rows, but no secret; or null.

@@ -1,7 +1,6 @@
 -- Encodings (A-XDR, IEC 61334-6), read value by value.
-use Rattle.std.specs.Prelude.{◌≡◌, ◌⊎◌, ℕ, zero, suc, List, ◌∷◌, Result, Ok, Err, IsErr, IsOkAnd}
-use Rattle.dlms_data.specs.Reading.{Fault, too_deep, length_at, values_at, data_at}
-use Rattle.dlms_data.specs.Value.{Values}
+use Rattle.std.specs.Prelude.{◌≡◌, ◌⊎◌, ℕ, List, ◌∷◌, Result, Ok, Err, IsErr, IsOkAnd}
+use Rattle.dlms_data.specs.Reading.{Fault, length_at}
 use Rattle.dlms_data.specs.declared.fault.DataFault.{DataFault}
 use Rattle.dlms_data.specs.declared.fault.DataFault.TheVariants as unread
 use Rattle.dlms_text.specs.declared.fault.ValueFault.{ValueFault}
@@ -20,11 +19,6 @@ IsFront bytes (Array count) rest = IsHead 1 bytes count rest
 IsFront bytes (Structure count) rest = IsHead 2 bytes count rest
 IsFront bytes Plain rest = (rest ≡ bytes)
     × ((count : ℕ) (after : List ℕ) → IsHead 1 bytes count after ⊎ IsHead 2 bytes count after → ⊥)
-
--- the values of an array or a structure after its head, if it may have this many levels
-abbrev pub held : ℕ → ℕ → List ℕ → Result (Values × List ℕ) Fault
-held zero count bytes = Err too_deep
-held (suc room) count bytes = values_at (data_at room) count bytes
 
 -- Why nothing is returned: `Form` means that nothing can be read, `Memory` that what can be read needs memory.
 abbrev pub IsUnread : {Y : Type 0} → (Y → Type 0) → ValueFault → Result Y Fault → Type 0

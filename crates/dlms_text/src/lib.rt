@@ -17,7 +17,7 @@ mod written;
 pub use decimal::append_decimal;
 pub use entry::{Entry, class_in, entry_of, right_of};
 pub use fault::ValueFault;
-pub use json::{append_json, append_number, append_pairs, append_quoted};
+pub use json::{append_number, append_pairs, append_quoted, append_text};
 pub use kind::{Kind, kind_of, kind_of_tag};
 pub use moment::date_time_in;
 pub use name::{Name, name_of};

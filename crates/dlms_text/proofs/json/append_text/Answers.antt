@@ -1,7 +1,7 @@
 use Rattle.std.proofs.Common.{arith}
 use Rattle.dlms_text.specs.Json.{letter_of}
 use Rattle.dlms_text.proofs.Growing.{at_octet, stopped}
-use Rattle.dlms_text.proofs.json.append_letters.Goals as goal
+use Rattle.dlms_text.proofs.json.append_text.Goals as goal
 
 pub returns-in_err-append_letter : goal.returns-in_err-append_letter
 returns-in_err-append_letter g c =
