@@ -101,18 +101,35 @@ fn put_command(text: &mut String, form: &Form, command: &CommandWords) -> Result
     put(text, form, form.end, command, None)
 }
 
-/// The text of a form: its head, an entry for each command, and each command with its arguments.
+/// Appends an entry for each command.
+fn put_entries(
+    text: &mut String,
+    form: &Form,
+    commands: &[CommandWords],
+) -> Result<(), AllocError> {
+    for command in commands {
+        put(text, form, form.entry, command, None)?;
+    }
+    Ok(())
+}
+
+/// Appends the text of a form: its head, an entry for each command, and each command with its arguments.
+fn put_page(text: &mut String, form: &Form, commands: &[CommandWords]) -> Result<(), AllocError> {
+    if let Some(first) = commands.first() {
+        put(text, form, form.head, first, None)?;
+    }
+    put_entries(text, form, commands)?;
+    text.push_str(form.middle)?;
+    for command in commands {
+        put_command(text, form, command)?;
+    }
+    text.push_str(form.tail)
+}
+
+/// The text of a form.
 fn page(alloc: Global, form: &Form) -> Result<String, AllocError> {
     let mut text = String::new(alloc);
-    put(&mut text, form, form.head, &COMMANDS[0], None)?;
-    for command in &COMMANDS {
-        put(&mut text, form, form.entry, command, None)?;
-    }
-    text.push_str(form.middle)?;
-    for command in &COMMANDS {
-        put_command(&mut text, form, command)?;
-    }
-    text.push_str(form.tail)?;
+    put_page(&mut text, form, &COMMANDS)?;
     Ok(text)
 }
 

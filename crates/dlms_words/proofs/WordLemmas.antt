@@ -105,36 +105,39 @@ polls_else words met none is meters asks looks =
           | inr rest ↦ elim rest [
             | inl has ↦ absurd (other_name _ met found is meters.1.1.1.0 has)
             | inr rest ↦ elim rest [
-              | inl has ↦ has
+              | inl has ↦ absurd (other_name _ met found is meters.1.1.1.1.0 has)
               | inr rest ↦ elim rest [
-                | inl has ↦ absurd (other_name _ met found is meters.1.1.1.1.0 has)
+                | inl has ↦ has
                 | inr rest ↦ elim rest [
-                  | inl has ↦ absurd (other_name _ met found is asks.0 has)
+                  | inl has ↦ absurd (other_name _ met found is meters.1.1.1.1.1.0 has)
                   | inr rest ↦ elim rest [
-                    | inl has ↦ absurd (other_name _ met found is asks.1.0 has)
+                    | inl has ↦ absurd (other_name _ met found is asks.0 has)
                     | inr rest ↦ elim rest [
-                      | inl has ↦ absurd (other_name _ met found is asks.1.1.0 has)
+                      | inl has ↦ absurd (other_name _ met found is asks.1.0 has)
                       | inr rest ↦ elim rest [
-                        | inl has ↦ absurd (other_name _ met found is asks.1.1.1.0 has)
+                        | inl has ↦ absurd (other_name _ met found is asks.1.1.0 has)
                         | inr rest ↦ elim rest [
-                          | inl has ↦ absurd (other_name _ met found is asks.1.1.1.1.0 has)
+                          | inl has ↦ absurd (other_name _ met found is asks.1.1.1.0 has)
                           | inr rest ↦ elim rest [
-                            | inl has ↦ absurd (other_name _ met found is asks.1.1.1.1.1.0 has)
+                            | inl has ↦ absurd (other_name _ met found is asks.1.1.1.1.0 has)
                             | inr rest ↦ elim rest [
-                              | inl has ↦ absurd (other_name _ met found is looks.0 has)
+                              | inl has ↦ absurd (other_name _ met found is asks.1.1.1.1.1.0 has)
                               | inr rest ↦ elim rest [
-                                | inl has ↦ absurd (other_name _ met found is looks.1.0 has)
+                                | inl has ↦ absurd (other_name _ met found is looks.0 has)
                                 | inr rest ↦ elim rest [
-                                  | inl has ↦ absurd (other_name _ met found is looks.1.1.0 has)
+                                  | inl has ↦ absurd (other_name _ met found is looks.1.0 has)
                                   | inr rest ↦ elim rest [
-                                    | inl has ↦ absurd (other_name _ met found is looks.1.1.1.0 has)
+                                    | inl has ↦ absurd (other_name _ met found is looks.1.1.0 has)
                                     | inr rest ↦ elim rest [
-                                      | inl has ↦ absurd (other_name _ met found is looks.1.1.1.1.0 has)
+                                      | inl has ↦ absurd (other_name _ met found is looks.1.1.1.0 has)
                                       | inr rest ↦ elim rest [
-                                        | inl has ↦ absurd (other_name _ met found is looks.1.1.1.1.1.0 has)
+                                        | inl has ↦ absurd (other_name _ met found is looks.1.1.1.1.0 has)
                                         | inr rest ↦ elim rest [
-                                          | inl has ↦ absurd (other_name _ met found is looks.1.1.1.1.1.1.0 has)
-                                          | inr no_more ↦ absurd no_more
+                                          | inl has ↦ absurd (other_name _ met found is looks.1.1.1.1.1.0 has)
+                                          | inr rest ↦ elim rest [
+                                            | inl has ↦ absurd (other_name _ met found is looks.1.1.1.1.1.1.0 has)
+                                            | inr no_more ↦ absurd no_more
+                                          ]
                                         ]
                                       ]
                                     ]

@@ -124,6 +124,12 @@ serve_command = with_rules (new_app (codes "serve"))
     ∷ number_rule (codes "idle") 1 86400 ∷ number_rule (codes "turn") 1 86400
     ∷ number_rule (codes "inactivity") 1 86400 ∷ [])
 
+abbrev pub listen_command : App
+listen_command = with_rules (new_app (codes "listen"))
+    (value_rule (codes "LINE") ∷ option_rule (codes "listen") ∷ option_rule (codes "keys")
+    ∷ flag_rule (codes "json") ∷ option_rule (codes "csv") ∷ option_rule (codes "readings")
+    ∷ number_rule (codes "count") 1 1000000000 ∷ flag_rule (codes "quiet") ∷ [])
+
 abbrev pub poll_command : App
 poll_command = with_rules (with_rules (new_app (codes "poll"))
     (wanted_rule (codes "PLACE") ∷ option_rule (codes "readings") ∷ flag_rule (codes "public")
@@ -135,8 +141,8 @@ poll_command = with_rules (with_rules (new_app (codes "poll"))
 
 abbrev pub collect_command : App
 collect_command = with_rules (new_app (codes "collect"))
-    (wanted_rule (codes "LIST") ∷ needed_rule (codes "readings")
-    ∷ option_rule (codes "secret-file") ∷ number_rule (codes "client") 1 127
+    (wanted_rule (codes "LIST") ∷ option_rule (codes "readings")
+    ∷ option_rule (codes "get") ∷ option_rule (codes "secret-file") ∷ number_rule (codes "client") 1 127
     ∷ number_rule (codes "at-once") 1 100000 ∷ number_rule (codes "deadline") 1 86400
     ∷ number_rule (codes "every") 1 31536000 ∷ number_rule (codes "retries") 0 100
     ∷ option_rule (codes "failed") ∷ flag_rule (codes "quiet") ∷ flag_rule (codes "json") ∷ [])
@@ -224,8 +230,8 @@ top = record (new_app (codes "dlms")) {
 }
 
 abbrev pub commands : List App
-commands = format_command ∷ replay_command ∷ loopback_command ∷ serve_command ∷ poll_command
-    ∷ collect_command ∷ get_command ∷ list_command ∷ profile_command ∷ clock_command ∷ set_command
+commands = format_command ∷ replay_command ∷ loopback_command ∷ serve_command ∷ listen_command
+    ∷ poll_command ∷ collect_command ∷ get_command ∷ list_command ∷ profile_command ∷ clock_command ∷ set_command
     ∷ act_command ∷ explain_command ∷ show_command ∷ plot_command ∷ keys_command ∷ names_command
     ∷ man_command ∷ completions_command ∷ []
 

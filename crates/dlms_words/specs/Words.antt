@@ -7,7 +7,7 @@ use Rattle.clap.specs.Words.{Row, Text, all_of, first_of}
 use Rattle.clap.specs.declared.error.Error.{Error}
 use Rattle.clap.specs.declared.error.kind.ErrorKind.TheVariants.{ArgumentConflict, InvalidValue}
 use Rattle.dlms_words.specs.declared.commands.Job.{Job}
-use Rattle.dlms_words.specs.declared.commands.Job.TheVariants.{Format, Replay, Loopback, Serve, Poll, Collect, Get, List as ListOf, Profile, Clock, Set, Act, Explain, Show, Plot, Keys, Names, Man, Completions}
+use Rattle.dlms_words.specs.declared.commands.Job.TheVariants.{Format, Replay, Loopback, Serve, Listen, Poll, Collect, Get, List as ListOf, Profile, Clock, Set, Act, Explain, Show, Plot, Keys, Names, Man, Completions}
 use Rattle.dlms_words.specs.declared.commands.Asking.{Asking}
 use Rattle.dlms_words.specs.declared.commands.ColorChoice.{ColorChoice}
 use Rattle.dlms_words.specs.declared.commands.ColorChoice.TheVariants.{Always, Auto, Never}
@@ -190,6 +190,15 @@ Asks met (Serve options) = (rows : List Row) × (met ≡ Some (codes "serve", ro
     × IsSaidFor (codes "turn") rows TURN options.turn
     × IsSaidFor (codes "inactivity") rows INACTIVITY options.inactivity
     × IsSaid (first_of (codes "wrapper") rows) options.wrapper
+Asks met (Listen options) = (rows : List Row) × (met ≡ Some (codes "listen", rows))
+    × (option_map (λ l. l.now) options.line ≡ first_of (codes "LINE") rows)
+    × (option_map (λ a. a.now) options.listen ≡ first_of (codes "listen") rows)
+    × (option_map (λ f. f.now) options.keys ≡ first_of (codes "keys") rows)
+    × (option_map (λ n. n.now) options.csv ≡ first_of (codes "csv") rows)
+    × (option_map (λ f. f.now) options.readings ≡ first_of (codes "readings") rows)
+    × MaySayFor (codes "count") rows options.count
+    × IsSaid (first_of (codes "quiet") rows) options.quiet
+    × ChoosesFormat rows options.format
 Asks met (Poll options) = (rows : List Row) × (met ≡ Some (codes "poll", rows))
     × IsMeter rows options.meter
     × (option_map (λ f. f.now) options.readings ≡ first_of (codes "readings") rows)
@@ -203,7 +212,8 @@ Asks met (Poll options) = (rows : List Row) × (met ≡ Some (codes "poll", rows
     × ChoosesFormat rows options.format
 Asks met (Collect options) = (rows : List Row) × (met ≡ Some (codes "collect", rows))
     × (options.list.now ≡ unwrap_or (first_of (codes "LIST") rows) [])
-    × (options.readings.now ≡ unwrap_or (first_of (codes "readings") rows) [])
+    × (option_map (λ f. f.now) options.readings ≡ first_of (codes "readings") rows)
+    × (option_map (λ f. f.now) options.get ≡ first_of (codes "get") rows)
     × (option_map (λ f. f.now) options.secret_file ≡ first_of (codes "secret-file") rows)
     × MaySayFor (codes "client") rows options.client
     × IsSaidFor (codes "at-once") rows AT_ONCE options.at_once
@@ -281,7 +291,7 @@ Asks met (Completions shell) = (rows : List Row) × (met ≡ Some (codes "comple
 -- the commands that make or run a meter, or poll many
 abbrev pub meter_commands : List Text
 meter_commands = codes "format" ∷ codes "replay" ∷ codes "loopback" ∷ codes "serve"
-    ∷ codes "collect" ∷ []
+    ∷ codes "listen" ∷ codes "collect" ∷ []
 
 -- the commands that make a request of any meter
 abbrev pub requests : List Text
@@ -364,13 +374,24 @@ ExpectsInClear met = (command : Text) × (rows : List Row) × (met ≡ Some (com
     × IsTrue (is_some (first_of (codes "expect") rows))
     × IsTrue (is_some (first_of (codes "security") rows))
 
+-- the meters of a list are to be polled, and to be asked for attributes
+abbrev pub CollectsBoth : Met → Type 0
+CollectsBoth met = (rows : List Row) × (met ≡ Some (codes "collect", rows))
+    × IsTrue (is_some (first_of (codes "readings") rows))
+    × IsTrue (is_some (first_of (codes "get") rows))
+
+-- they are to be neither
+abbrev pub CollectsNothing : Met → Type 0
+CollectsNothing met = (rows : List Row) × (met ≡ Some (codes "collect", rows))
+    × (first_of (codes "readings") rows ≡ None) × (first_of (codes "get") rows ≡ None)
+
 -- two are given and one is wanted, or one is given that needs another
 abbrev pub AsksBoth : Met → Type 0
 AsksBoth met = AsksTwoClients met ⊎ GivesClientTwice met ⊎ NamesTwoPlaces met ⊎ WrapsLine met
     ⊎ AsksTwoDemos met ⊎ WidensPort met ⊎ SizesMessages met ⊎ ShowsSecret met ⊎ ReadsIdleCounter met
-    ⊎ ExpectsInClear met
+    ⊎ ExpectsInClear met ⊎ CollectsBoth met ⊎ CollectsNothing met
 
--- what was found for this value of the command
+-- the text that the command line gives for this option or operand of the command
 abbrev pub value_in : Text → Met → Option Text
 value_in name None = None
 value_in name (Some (command, rows)) = first_of name rows
@@ -380,7 +401,7 @@ abbrev pub NamesNoAddress : Met → Type 0
 NamesNoAddress met = (text : Text) × (value_in (codes "listen") met ≡ Some text)
     × (IsAddress text → ⊥)
 
--- a meter is named by what is no place
+-- the word for the meter is not a place
 abbrev pub NamesNoPlace : Met → Type 0
 NamesNoPlace met = (text : Text) × (value_in (codes "PLACE") met ≡ Some text)
     × (IsPlace text → ⊥)

@@ -135,6 +135,26 @@ pub struct ServeOptions<'a> {
     pub inactivity: u32,
 }
 
+/// The options of `listen`.
+#[derive(Clone, Copy)]
+pub struct ListenOptions<'a> {
+    /// The device of the serial line, or standard input, if one is given.
+    pub line: Option<&'a str>,
+    /// The address to listen on, if one is given.
+    pub listen: Option<&'a str>,
+    /// The file with the keys that open ciphered notifications.
+    pub keys: Option<&'a str>,
+    /// The names of the values to print as CSV, if they are given.
+    pub csv: Option<&'a str>,
+    /// The folder of the readings files, if one is given.
+    pub readings: Option<&'a str>,
+    /// The number of notifications after which it ends, if one is given.
+    pub count: Option<u32>,
+    /// Whether nothing is printed about what is skipped or refused.
+    pub quiet: bool,
+    pub format: OutputFormat,
+}
+
 /// The options of `poll`.
 #[derive(Clone, Copy)]
 pub struct PollOptions<'a> {
@@ -163,8 +183,10 @@ pub struct PollOptions<'a> {
 pub struct CollectOptions<'a> {
     /// The file with the list of meters.
     pub list: &'a str,
-    /// The folder of the readings files.
-    pub readings: &'a str,
+    /// The folder of the readings files, if meters are polled.
+    pub readings: Option<&'a str>,
+    /// The names of the attributes that are requested instead, with commas between them.
+    pub get: Option<&'a str>,
     /// The file of the client's secret, for meters whose line names none.
     pub secret_file: Option<&'a str>,
     /// The address of the client, 1 to 127, for meters whose line names none, if one is given.
@@ -331,6 +353,8 @@ pub enum Job<'a> {
     Loopback(LoopbackOptions<'a>),
     /// Serves the meter in a file on a TCP port or on a serial line.
     Serve(ServeOptions<'a>),
+    /// Prints what meters send by themselves.
+    Listen(ListenOptions<'a>),
     /// Polls a meter once, into a readings file if one is given.
     Poll(PollOptions<'a>),
     /// Polls the meters of a list, many at once, each into a readings file of its own.

@@ -1,7 +1,7 @@
 //! Options that exclude each other, and addresses that are invalid.
 ghost use Rattle.std.specs.Prelude.{◌≡◌, ◌↔◌, option_map, IfNone, OnSome, IsTrue};
 ghost use Rattle.clap.specs.Words.{subcommand_rows_of};
-ghost use Rattle.dlms_words.specs.Words.{GivesClientTwice, NamesAnd, GivesBoth, AsksBoth, IsInvalid, NamesNoAddress, NamesNoColor, NamesNoShell, is_color, is_shell, value_in, NamesTwoPlaces, ReadsIdleCounter, ShowsSecret, SizesMessages, WidensPort, ExpectsInClear, NamesNoPlace};
+ghost use Rattle.dlms_words.specs.Words.{GivesClientTwice, NamesAnd, GivesBoth, AsksBoth, IsInvalid, NamesNoAddress, NamesNoColor, NamesNoShell, is_color, is_shell, value_in, NamesTwoPlaces, ReadsIdleCounter, CollectsBoth, CollectsNothing, ShowsSecret, SizesMessages, WidensPort, ExpectsInClear, NamesNoPlace};
 
 use crate::addresses::{is_address, is_place};
 use crate::values::{is_given, is_named, value_for};
@@ -34,13 +34,19 @@ const NO_KEYS: &str = "the argument '--counter-from' cannot be used without '--s
 /// The message if texts are expected of a meter that is to be asked for nothing in clear.
 const EXPECTS_IN_CLEAR: &str = "the argument '--expect' cannot be used with '--security'";
 
+/// The message if the meters of a list are to be polled and to be asked for attributes.
+const TWO_PURPOSES: &str = "the argument '--get' cannot be used with '--readings'";
+
+/// The message if they are to be neither.
+const NO_PURPOSE: &str = "one of the arguments '--readings <DIR>' and '--get <NAMES>' is required";
+
 /// The message if two days of captures are asked for.
 const TWO_DEMOS: &str = "the argument '--demo' cannot be used with '--demo-day'";
 
 /// The message if the address to listen on is invalid.
 const NO_ADDRESS: &str = "an address is expected as HOST:PORT, with a port of 0 to 65535";
 
-/// The message if a meter is named by what is no place.
+/// The message for a word that is not a meter's place.
 const NO_PLACE: &str =
     "a place is expected as HOST:PORT, /dev/.. or wrapper://HOST:PORT, with a port of 0 to 65535";
 
@@ -159,6 +165,30 @@ fn expects_in_clear(matches: &ArgMatches<'_>) -> bool
     expects && is_protected
 }
 
+/// Whether the meters of a list are to be polled, and to be asked for attributes.
+fn collects_both(matches: &ArgMatches<'_>) -> bool
+    ensures { IsTrue result ↔ CollectsBoth (subcommand_rows_of matches.now) }
+{
+    if matches.subcommand_name() != Some("collect") {
+        return false;
+    }
+    let polls = is_named(matches, "collect", "readings");
+    let gets = is_named(matches, "collect", "get");
+    polls && gets
+}
+
+/// Whether they are to be neither.
+fn collects_nothing(matches: &ArgMatches<'_>) -> bool
+    ensures { IsTrue result ↔ CollectsNothing (subcommand_rows_of matches.now) }
+{
+    if matches.subcommand_name() != Some("collect") {
+        return false;
+    }
+    let polls = is_named(matches, "collect", "readings");
+    let gets = is_named(matches, "collect", "get");
+    !polls && !gets
+}
+
 /// The message if two are given and one is wanted, or one is given that needs another.
 pub fn conflict(matches: &ArgMatches<'_>) -> Option<&'static str>
     ensures some { OnSome result (AsksBoth (subcommand_rows_of matches.now)) }
@@ -193,6 +223,12 @@ pub fn conflict(matches: &ArgMatches<'_>) -> Option<&'static str>
     }
     if expects_in_clear(matches) {
         return Some(EXPECTS_IN_CLEAR);
+    }
+    if collects_both(matches) {
+        return Some(TWO_PURPOSES);
+    }
+    if collects_nothing(matches) {
+        return Some(NO_PURPOSE);
     }
     None
 }
@@ -250,7 +286,7 @@ fn names_no_address(matches: &ArgMatches<'_>) -> bool
     }
 }
 
-/// Whether the meter is named by what is no place.
+/// Whether the word for the meter is not a place.
 fn names_no_place(matches: &ArgMatches<'_>) -> bool
     ensures { IsTrue result ↔ NamesNoPlace (subcommand_rows_of matches.now) }
 {
@@ -260,7 +296,7 @@ fn names_no_place(matches: &ArgMatches<'_>) -> bool
     }
 }
 
-/// The message for what is no place.
+/// The message for a word that is not a place.
 fn place_message(matches: &ArgMatches<'_>) -> &'static str {
     match value_in(matches, "PLACE") {
         Some(text) if text.starts_with("COM") => NO_DEVICE,

@@ -42,6 +42,15 @@ Examples:
   dlms serve meter.bin --load 3000
   dlms serve meter.bin --line /dev/ttyUSB0 --quiet";
 
+/// The notes of `listen`.
+pub const LISTEN: &str =
+    "Reads data and event notifications in HDLC frames or messages of the wrapper, until it is killed.
+Damaged frames are skipped and counted. Set a serial line up first, as for serve.
+
+Examples:
+  dlms listen /dev/ttyUSB0
+  dlms listen --listen 0.0.0.0:4059 --keys keys.toml --json";
+
 /// The notes of `poll`.
 pub const POLL: &str =
     "Prints a line clock,r0,r1,r2 for each new row. With --readings it asks for rows from FILE's last row
@@ -54,12 +63,13 @@ Examples:
 
 /// The notes of `collect`.
 pub const COLLECT: &str =
-    "Each line of LIST is NAME PLACE, and if needed client=, server=, carrier=, secret-file= or security=.
-The rows of a meter go to NAME.csv in DIR, and are printed after its name.
+    "Each line of LIST is NAME PLACE, and if needed client=, server=, carrier=, secret-file=, security= or
+expect=, the logical device name. The rows of a meter go to NAME.csv in DIR, and are printed after its
+name. With --get its values are printed so instead, and nothing is filed.
 
 Examples:
-  dlms collect meters.txt --readings readings --failed failed.txt
-  dlms collect meters.txt --readings readings --every 900 --json";
+  dlms collect meters.txt --readings readings --every 900 --failed failed.txt
+  dlms collect meters.txt --get 1.8.0,clock --json";
 
 /// The notes of `get`.
 pub const GET: &str =

@@ -4,8 +4,8 @@ ghost use Rattle.clap.specs.Words.{all_of, Row, subcommand_rows_of};
 ghost use Rattle.dlms_words.specs.Words.{asker as client_by, Asks, IsExpecting, IsNoneOf, meter_commands, others};
 
 use crate::commands::{
-    CollectOptions, Expecting, ExplainOptions, FormatOptions, Job, KeysOptions, LoopbackOptions,
-    PlotOptions, PollOptions, ServeOptions, ShowOptions,
+    CollectOptions, Expecting, ExplainOptions, FormatOptions, Job, KeysOptions, ListenOptions,
+    LoopbackOptions, PlotOptions, PollOptions, ServeOptions, ShowOptions,
 };
 use crate::defaults::{AT_ONCE, DEADLINE, IDLE, INACTIVITY, TICK, TURN};
 use crate::requests::meter;
@@ -72,6 +72,25 @@ fn serve_job<'a>(matches: &ArgMatches<'a>) -> Job<'a>
     })
 }
 
+/// The values of `listen`.
+fn listen_job<'a>(matches: &ArgMatches<'a>) -> Job<'a>
+    ensures { (rows : List Row) → subcommand_rows_of matches.now ≡ Some (codes "listen", rows)
+        → Asks (Some (codes "listen", rows)) result }
+{
+    let quiet = is_given(value_for(matches, "listen", "quiet"));
+    let json = is_given(value_for(matches, "listen", "json"));
+    Job::Listen(ListenOptions {
+        line: value_for(matches, "listen", "LINE"),
+        listen: value_for(matches, "listen", "listen"),
+        keys: value_for(matches, "listen", "keys"),
+        csv: value_for(matches, "listen", "csv"),
+        readings: value_for(matches, "listen", "readings"),
+        count: given_number_for(matches, "listen", "count"),
+        quiet,
+        format: output_format(json),
+    })
+}
+
 /// Who asks, by the flags that were given.
 fn asker(public: bool, reader: bool) -> Client
     ensures { result ≡ client_by public reader }
@@ -133,7 +152,8 @@ fn collect_job<'a>(matches: &ArgMatches<'a>) -> Job<'a>
     let json = is_given(value_for(matches, "collect", "json"));
     Job::Collect(CollectOptions {
         list: value_for(matches, "collect", "LIST").unwrap_or(""),
-        readings: value_for(matches, "collect", "readings").unwrap_or(""),
+        readings: value_for(matches, "collect", "readings"),
+        get: value_for(matches, "collect", "get"),
         secret_file: value_for(matches, "collect", "secret-file"),
         client: given_number_for(matches, "collect", "client"),
         at_once: number_for(matches, "collect", "at-once", AT_ONCE),
@@ -162,6 +182,9 @@ pub fn meter_job<'a>(matches: &ArgMatches<'a>) -> Option<Job<'a>>
     }
     if matches.subcommand_name() == Some("serve") {
         return Some(serve_job(matches));
+    }
+    if matches.subcommand_name() == Some("listen") {
+        return Some(listen_job(matches));
     }
     if matches.subcommand_name() == Some("collect") {
         return Some(collect_job(matches));

@@ -21,9 +21,9 @@ pub use addresses::{Place, split_place};
 pub use arguments::{Argument, Kind};
 pub use commands::{
     ActOptions, Asking, ClockOptions, CollectOptions, ColorChoice, Expecting, ExplainOptions,
-    FormatOptions, GetOptions, Job, KeysOptions, ListOptions, LoopbackOptions, MeterOptions,
-    OutputFormat, PlotOptions, PollOptions, ProfileOptions, ServeOptions, SetOptions, Shell,
-    ShowOptions, TableFormat, ValueFormat,
+    FormatOptions, GetOptions, Job, KeysOptions, ListOptions, ListenOptions, LoopbackOptions,
+    MeterOptions, OutputFormat, PlotOptions, PollOptions, ProfileOptions, ServeOptions, SetOptions,
+    Shell, ShowOptions, TableFormat, ValueFormat,
 };
 pub use help::ABOUT;
 pub use numbers::number;

@@ -2,8 +2,8 @@
 
 use crate::arguments::{Argument, Kind};
 use crate::help::{
-    ACT, CLOCK, COLLECT, COMPLETIONS, EXPLAIN, FORMAT, GET, KEYS, LIST, LOOPBACK, MAN, NAMES, PLOT,
-    POLL, PROFILE, REPLAY, SERVE, SET, SHOW,
+    ACT, CLOCK, COLLECT, COMPLETIONS, EXPLAIN, FORMAT, GET, KEYS, LIST, LISTEN, LOOPBACK, MAN,
+    NAMES, PLOT, POLL, PROFILE, REPLAY, SERVE, SET, SHOW,
 };
 use crate::shared::{
     ASKING, CLASS, DEADLINE, JSON, JSON_LINES, METER_FILE, PLACE, POLLING, QUIET, SECRET_FILE,
@@ -24,7 +24,7 @@ pub struct CommandWords {
 }
 
 /// The program's commands.
-pub const COMMANDS: [CommandWords; 19] = [
+pub const COMMANDS: [CommandWords; 20] = [
     CommandWords {
         name: "format",
         about: "Makes a new meter in FILE",
@@ -133,6 +133,54 @@ pub const COMMANDS: [CommandWords; 19] = [
         more: &[],
     },
     CommandWords {
+        name: "listen",
+        about: "Prints what meters send by themselves, over a serial line or TCP",
+        notes: LISTEN,
+        arguments: &[
+            Argument {
+                name: "LINE",
+                kind: Kind::Value,
+                help: "The serial line, or - for standard input [default: TCP]",
+            },
+            Argument {
+                name: "listen",
+                kind: Kind::Option("ADDRESS:PORT"),
+                help: "The address to listen on [default: 127.0.0.1:4059]",
+            },
+            Argument {
+                name: "keys",
+                kind: Kind::Option("FILE"),
+                help: "Takes only what the keys in FILE open (suite 0)",
+            },
+            Argument {
+                name: "json",
+                kind: Kind::Flag,
+                help: "Prints an object of JSON for each notification",
+            },
+            Argument {
+                name: "csv",
+                kind: Kind::Option("NAMES"),
+                help: "Prints time and these values, as 1.7.0,1.8.0",
+            },
+            Argument {
+                name: "readings",
+                kind: Kind::Option("DIR"),
+                help: "Files clock and registers in DIR, a file for each meter",
+            },
+            Argument {
+                name: "count",
+                kind: Kind::Number("N", 1, 1_000_000_000),
+                help: "Ends after N notifications",
+            },
+            Argument {
+                name: "quiet",
+                kind: Kind::Flag,
+                help: "Prints nothing about what is skipped or refused",
+            },
+        ],
+        more: &[],
+    },
+    CommandWords {
         name: "poll",
         about: "Polls the meter at PLACE, and prints the new rows",
         notes: POLL,
@@ -185,7 +233,7 @@ pub const COMMANDS: [CommandWords; 19] = [
     },
     CommandWords {
         name: "collect",
-        about: "Polls the meters of LIST, many at once, and prints the new rows",
+        about: "Polls the meters of LIST, many at once, or asks them for attributes",
         notes: COLLECT,
         arguments: &[
             Argument {
@@ -195,8 +243,13 @@ pub const COMMANDS: [CommandWords; 19] = [
             },
             Argument {
                 name: "readings",
-                kind: Kind::Needed("DIR"),
-                help: "The folder of the readings files, NAME.csv",
+                kind: Kind::Option("DIR"),
+                help: "Polls: the folder of the readings files, NAME.csv",
+            },
+            Argument {
+                name: "get",
+                kind: Kind::Option("NAMES"),
+                help: "Asks for these attributes instead, up to 16",
             },
             SECRET_FILE,
             Argument {
@@ -260,7 +313,7 @@ pub const COMMANDS: [CommandWords; 19] = [
             Argument {
                 name: "long",
                 kind: Kind::Flag,
-                help: "Lists attributes and methods by their names",
+                help: "Lists attributes and methods by name, with the values that can be read",
             },
             QUIET,
             JSON,

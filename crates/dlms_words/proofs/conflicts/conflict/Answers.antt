@@ -23,7 +23,13 @@ returns-clause-none c = λ both. elim both [
                 | inl it ↦ no_truth _ c.if-shows_secret.false (c.shows_secret.ensures.1 it)
                 | inr rest ↦ elim rest [
                   | inl it ↦ no_truth _ c.if-reads_idle_counter.false (c.reads_idle_counter.ensures.1 it)
-                  | inr rest ↦ no_truth _ c.if-expects_in_clear.false (c.expects_in_clear.ensures.1 rest)
+                  | inr rest ↦ elim rest [
+                    | inl it ↦ no_truth _ c.if-expects_in_clear.false (c.expects_in_clear.ensures.1 it)
+                    | inr rest ↦ elim rest [
+                      | inl it ↦ no_truth _ c.if-collects_both.false (c.collects_both.ensures.1 it)
+                      | inr rest ↦ no_truth _ c.if-collects_nothing.false (c.collects_nothing.ensures.1 rest)
+                    ]
+                  ]
                 ]
               ]
             ]

@@ -27,5 +27,10 @@ returns-then-eq-4-clause-some c =
 
 pub returns-then-eq-5-clause-some : goal.returns-then-eq-5-clause-some
 returns-then-eq-5-clause-some c =
+    let named = met_named (codes "listen") (subcommand_rows_of c.args.matches.now) (search rules) in
+    subst (λ (m : Option (Text × List Row)). Asks m c.listen_job.result) (sym named.1) (c.listen_job.ensures named.0 named.1)
+
+pub returns-then-eq-6-clause-some : goal.returns-then-eq-6-clause-some
+returns-then-eq-6-clause-some c =
     let named = met_named (codes "collect") (subcommand_rows_of c.args.matches.now) (search rules) in
     subst (λ (m : Option (Text × List Row)). Asks m c.collect_job.result) (sym named.1) (c.collect_job.ensures named.0 named.1)
