@@ -1,0 +1,2 @@
+mod AskLemmas
+mod MeterJobLemmas
