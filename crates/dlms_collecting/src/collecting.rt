@@ -1,4 +1,4 @@
-//! Polls the meters of a list, side by side, once or again and again.
+//! Polls the meters of a list, or requests attributes of them, side by side, once or again and again.
 
 ghost use Rattle.std.specs.Prelude.{◌≤◌, ◌<◌};
 
@@ -9,8 +9,10 @@ use crate::meter_file::path_of;
 use crate::named::RowFormat;
 use crate::report::{Tally, failed_lines, print_failures, print_tally};
 use crate::round::{Round, moment};
+use crate::values::ValueText;
 use dlms_filing::{FilePlace, Filing, Holding, HostDisk, Output};
 use dlms_pages::sync_folder;
+use dlms_text::Name;
 use std::fs::{File, Files};
 use std::io::Write;
 use std::net::Net;
@@ -21,16 +23,43 @@ use std::time::{Clock, Duration, Instant};
 /// The name of a path in the folder of the readings files; no file of this path is opened.
 const PROBE: &str = "collect";
 
-/// The meters to poll, and how.
+/// What is wanted of each meter.
+#[derive(Clone, Copy)]
+pub enum Purpose<'a> {
+    /// Its new rows, which are filed in this folder, which has to exist.
+    Poll(&'a str),
+    /// The attributes of these names, which are written so, with commas between them.
+    Get(&'a str, &'a [Name]),
+}
+
+impl<'a> Purpose<'a> {
+    /// The folder of the readings files, if meters are polled.
+    pub fn folder(&self) -> Option<&'a str> {
+        match self {
+            Purpose::Poll(folder) => Some(*folder),
+            Purpose::Get(..) => None,
+        }
+    }
+
+    /// The names of the attributes, if some are requested.
+    pub fn names(&self) -> &'a str {
+        match self {
+            Purpose::Poll(_) => "",
+            Purpose::Get(names, _) => *names,
+        }
+    }
+}
+
+/// The meters of a collection, and what is wanted of them.
 #[derive(Clone, Copy)]
 pub struct Collection<'a> {
     /// The text of the list.
     pub list: &'a str,
-    /// The folder of the readings files, which has to exist.
-    pub folder: &'a str,
+    /// What is wanted of each.
+    pub purpose: Purpose<'a>,
     /// The client of the meters whose lines name none.
     pub defaults: Defaults<'a>,
-    /// How a row is printed.
+    /// How a row is printed, if meters are polled.
     pub format: RowFormat,
     /// How many polls may run at once; at least one does. Fewer do if the system does not allow that many open files.
     pub at_once: usize,
@@ -116,6 +145,21 @@ fn wait_for_round<R: Clock>(rt: &R, start: Instant, now: Instant, every: u32) {
     }
 }
 
+/// A path in the folder of the readings files, which is synced once; empty if there is no such folder.
+fn probe_of<'a, R: Files<File = File> + AllocGlobal>(
+    rt: &R,
+    purpose: Purpose<'a>,
+) -> Result<String, CollectFault<'a>> {
+    let Some(folder) = purpose.folder() else {
+        return Ok(String::new(rt.alloc()));
+    };
+    let probe = path_of(rt.alloc(), folder, PROBE)?;
+    match sync_folder(rt, probe.as_str()) {
+        Ok(()) => Ok(probe),
+        Err(error) => Err(CollectFault::System(folder, error)),
+    }
+}
+
 /// Runs a round, and reports its result.
 fn run_round<
     'a,
@@ -123,12 +167,12 @@ fn run_round<
     R: Net + Files<File = File> + Clock + AllocGlobal + RandomSource,
     O: Output,
     E: Write,
-    T: FaultText,
+    T: FaultText + ValueText,
     F: Filing,
 >(
     rt: &R,
     collection: &'l Collection<'a>,
-    texts: &T,
+    texts: &'l T,
     meters: &'l [Meter<'a>],
     probe: &'l str,
     seats: usize,
@@ -141,6 +185,7 @@ fn run_round<
     let mut round = Round::new(
         rt,
         &*collection,
+        &*texts,
         &*meters,
         &*probe,
         seats,
@@ -155,14 +200,13 @@ fn run_round<
     print_failures(
         alloc,
         texts,
-        collection.folder,
-        collection.deadline,
+        collection,
         meters,
         failures.as_slice(),
         errors,
     )?;
     if !collection.quiet {
-        print_tally(&tally, errors);
+        print_tally(&tally, collection.purpose, errors);
     }
     let text = failed_lines(alloc, meters, failures.as_slice())?;
     put_failed(failed, collection, text.as_str())?;
@@ -170,15 +214,16 @@ fn run_round<
 }
 
 /// Polls the meters of a list side by side, and files the rows of each into `FOLDER/NAME.csv` by the rules of `poll`: the new rows are
-/// printed in the wanted format before their file is put. After a round a line on the errors reports each meter
-/// that failed, with the text that `texts` has for it. Progress is shown on the errors if `is_terminal`: they are a terminal, and the
-/// rows do not go to it. Returns the result of the last round.
+/// printed in the wanted format before their file is put. Or requests attributes of them, and prints the values as `texts` has them. A
+/// meter of which a text is expected shows it before. After a round a line on the errors reports each meter that failed, with the text
+/// that `texts` has for it. Progress is shown on the errors if `is_terminal`: they are a terminal, and the rows do not go to it. Returns
+/// the result of the last round.
 pub fn collect<
     'a,
     R: Net + Files<File = File> + Clock + AllocGlobal + RandomSource,
     O: Output,
     E: Write,
-    T: FaultText,
+    T: FaultText + ValueText,
 >(
     rt: &R,
     collection: &Collection<'a>,
@@ -192,10 +237,7 @@ pub fn collect<
         Ok(meters) => meters,
         Err(fault) => return Err(CollectFault::List(fault)),
     };
-    let probe = path_of(alloc, collection.folder, PROBE)?;
-    if let Err(error) = sync_folder(rt, probe.as_str()) {
-        return Err(CollectFault::System(collection.folder, error));
-    }
+    let probe = probe_of(rt, collection.purpose)?;
     let mut failed = hold_failed(rt, collection)?;
     let seats = seats(collection, meters.len(), errors);
     let shows = is_terminal && !collection.quiet;

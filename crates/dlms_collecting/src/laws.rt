@@ -11,7 +11,7 @@ use std::alloc::Allocator;
 
 /// If the carrier of a meter's poll leads to a meter, and that meter held the rows of the readings file, it holds those of the text that
 /// is put in the file's place, whatever messages were lost. That a poll is done which its seat hands back as done, whatever the other
-/// meters do, is a law of `dlms_jobs`.
+/// meters do, is a law of `dlms_inquiries`.
 pub fn what_is_collected_is_held<P: Pages, A: Allocator + Copy>(meter: &Meter<P, A>)
     ensures { WhatIsCollectedIsHeld meter.now }
 {

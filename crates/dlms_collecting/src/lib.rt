@@ -1,4 +1,4 @@
-//! Polls many meters side by side in one process, each into a readings file of its own.
+//! Polls many meters side by side in one process, each into a readings file of its own, or requests attributes of them.
 #![tactic(auto)]
 
 mod collecting;
@@ -10,16 +10,20 @@ mod list;
 mod list_fault;
 mod meter_file;
 mod named;
+mod order;
 mod pace;
 mod progress;
 mod report;
 mod round;
 mod schedule;
+mod texts;
+mod values;
 mod wires;
 
-pub use collecting::{Collection, collect};
-pub use fault::{CollectFault, FailedMeter, FaultText, MeterFault, PollFailure};
+pub use collecting::{Collection, Purpose, collect};
+pub use fault::{CollectFault, FailedMeter, FaultText, MeterFailure, MeterFault, Refusal};
 pub use list::{Defaults, Meter, read_list};
 pub use list_fault::{LineFault, ListFault};
 pub use named::{Named, RowFormat, append_second};
 pub use report::Tally;
+pub use values::{MeterValue, ValueText};

@@ -7,8 +7,9 @@ ghost use Rattle.dlms_collecting.specs.List.{begins_name, is_mark, is_name, is_n
 use crate::list_fault::{LineFault, ListFault};
 use dlms_client::Route;
 use dlms_frame::{Address, Client};
+use dlms_identity::Expected;
 use dlms_lines::host_and_port;
-use dlms_text::server_of;
+use dlms_text::{server_of, written_name};
 use std::alloc::Global;
 use std::collections::HashSet;
 
@@ -17,6 +18,9 @@ const SERVER: u8 = 1;
 
 /// The greatest address of a client.
 const LAST_CLIENT: u8 = 127;
+
+/// The logical device name (IEC 62056-6-1, COSEM logical device name).
+const DEVICE_NAME: [u8; 6] = [0, 0, 42, 0, 0, 255];
 
 /// A meter of the list.
 #[derive(Clone, Copy)]
@@ -37,6 +41,8 @@ pub struct Meter<'a> {
     pub secret_file: Option<&'a str>,
     /// The file of the client's settings, if the association is to be protected.
     pub security: Option<&'a str>,
+    /// The text that an object of the meter has to show.
+    pub expected: Option<Expected<'a>>,
 }
 
 /// The client of the meters whose lines name none.
@@ -57,6 +63,7 @@ struct Options<'a> {
     security: Option<&'a str>,
     carrier: Option<&'a str>,
     server: Option<&'a str>,
+    expect: Option<&'a str>,
 }
 
 /// The names and the files of settings of the lines before. No two meters have the same.
@@ -126,6 +133,7 @@ impl<'a> Options<'a> {
             security: None,
             carrier: None,
             server: None,
+            expect: None,
         }
     }
 
@@ -140,7 +148,7 @@ impl<'a> Options<'a> {
             "carrier" => keep(&mut self.carrier, value),
             "server" => keep(&mut self.server, value),
             "security" => keep(&mut self.security, value),
-            "expect" => Err(LineFault::NotYet),
+            "expect" => keep(&mut self.expect, value),
             _ => Err(LineFault::Option),
         }
     }
@@ -206,6 +214,34 @@ fn route_of(options: &Options<'_>, client: u8) -> Result<Route, LineFault> {
     }
 }
 
+/// The object and the text that an option gives: `NAME=TEXT`, or the text alone, which is the logical device name.
+fn expected_in(text: &str) -> Option<Expected<'_>> {
+    let Some((object, shown)) = text.split_once('=') else {
+        return Some(Expected {
+            name: DEVICE_NAME,
+            text,
+        });
+    };
+    match written_name(object) {
+        Some(name) if name.number.is_none() => Some(Expected {
+            name: name.code,
+            text: shown,
+        }),
+        _ => None,
+    }
+}
+
+/// The object and the text that a line expects, if it expects one.
+fn expected_of<'a>(options: &Options<'a>) -> Result<Option<Expected<'a>>, (&'a str, LineFault)> {
+    let Some(text) = options.expect else {
+        return Ok(None);
+    };
+    match expected_in(text) {
+        Some(expected) => Ok(Some(expected)),
+        None => Err((text, LineFault::Expect)),
+    }
+}
+
 /// Judges a name and a place.
 fn judge_place(name: &str, place: &str) -> Result<(), (bool, LineFault)> {
     if !is_name(name.as_bytes()) {
@@ -230,6 +266,7 @@ fn with_options<'a>(
     let Some((client, sap)) = client_of(options) else {
         return Err((options.client.unwrap_or(""), LineFault::Client));
     };
+    let expected = expected_of(options)?;
     match route_of(options, sap) {
         Ok(route) => Ok(Meter {
             line,
@@ -242,6 +279,7 @@ fn with_options<'a>(
                 && !is_address(options),
             secret_file: options.secret_file,
             security: options.security,
+            expected,
         }),
         Err(LineFault::Carrier) => Err((options.carrier.unwrap_or(""), LineFault::Carrier)),
         Err(fault) => Err((options.server.unwrap_or(""), fault)),

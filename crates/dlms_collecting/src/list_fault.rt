@@ -20,8 +20,8 @@ pub enum LineFault {
     Option,
     /// The option was given before.
     OptionTwice,
-    /// `collect` does not have this option of `poll` yet.
-    NotYet,
+    /// The option's value is not a text, or an object and its text.
+    Expect,
     /// The line names a secret that would be sent in clear, and a file of settings too.
     NoSecret,
     /// An earlier line has the same file of settings.
@@ -48,10 +48,12 @@ impl LineFault {
             LineFault::Place => "a place is expected, as HOST or HOST:PORT",
             LineFault::Serial => "a serial line cannot be collected from: dlms poll polls it",
             LineFault::Option => {
-                "client=, secret-file=, security=, carrier= or server= is expected, with a value"
+                "client=, secret-file=, security=, carrier=, server= or expect= is expected, with a value"
             }
             LineFault::OptionTwice => "this option is given twice",
-            LineFault::NotYet => "collect does not have this option yet: dlms poll has it",
+            LineFault::Expect => {
+                "the logical device name is expected, or NAME=TEXT, as 0.0.42.0.0.255=RTL0000000000001"
+            }
             LineFault::NoSecret => "security= cannot be used with secret-file=",
             LineFault::SecurityTwice => {
                 "an earlier line has these settings: each meter needs settings and counters of its own"

@@ -1,25 +1,30 @@
-//! A round of a collection: each meter of the list is polled once.
+//! A round of a collection: each meter of the list is polled once, or asked for attributes once.
 
 ghost use Rattle.std.specs.Prelude.{◌≡◌, ◌*◌};
 ghost use Rattle.dlms_collecting.specs.declared.pace.TheConstants.{TICKS_A_SECOND};
 ghost use Rattle.dlms_collecting.specs.declared.round.TheConstants.{ANSWER_SECONDS};
 
-use crate::collecting::Collection;
-use crate::fault::{CollectFault, MeterFault};
+use crate::collecting::{Collection, Purpose};
+use crate::fault::{CollectFault, FaultText, MeterFault};
 use crate::list::Meter;
 use crate::meter_file::{MeterFile, path_of};
 use crate::named::Named;
+use crate::order::Order;
 use crate::pace::{Pace, TICKS_A_SECOND};
 use crate::progress::{AboveProgress, Progress};
 use crate::report::{Failure, Tally};
 use crate::schedule::Schedule;
+use crate::texts::judge_text;
+use crate::values::{PrintedValues, ValueText};
 use crate::wires::{EndedPoll, Wires};
 use dlms_ends::RunFault;
 use dlms_filing::Output;
 use dlms_fleet::{Fleet, Limits, Outcome, take_all};
+use dlms_inquiries::{AskJob, Attributes, MeterJob, Questions};
 use dlms_jobs::PollJob;
 use dlms_lines::host_and_port;
 use dlms_pages::sync_folder;
+use std::alloc::{AllocError, Global};
 use std::fs::{File, Files};
 use std::io;
 use std::io::{ErrorKind, Write};
@@ -36,17 +41,31 @@ const MOST_STARTS: usize = 64;
 /// The most polls that are filed in a turn: the files of a group.
 const GROUP: usize = 64;
 
-/// A round: the polls that run and those that wait, and the result of the others.
+/// What came of a job that ended.
+#[derive(Clone, Copy)]
+enum Finished {
+    /// Its meter's file was put.
+    Filed,
+    /// Its meter is done, or waits for what comes next.
+    Nothing,
+    /// Its meter failed.
+    Failed(MeterFault),
+}
+
+/// A round: the jobs that run and the meters that wait, and the result of the others.
 #[derive(Drop)]
-pub struct Round<'a, 'l, 'r, R, O, E> {
+pub struct Round<'a, 'l, 'r, R, T, O, E> {
     rt: &'r R,
     collection: &'l Collection<'a>,
+    texts: &'l T,
     meters: &'l [Meter<'a>],
     /// A path in the folder of the readings files.
     probe: &'l str,
-    fleet: Fleet<Box<PollJob>>,
-    wires: Wires<MeterFile<'r, R>, Box<PollJob>>,
+    fleet: Fleet<MeterJob>,
+    wires: Wires<Order<'r, R>, MeterJob>,
     schedule: Schedule,
+    /// Whether a meter has shown the text that it has to show, by its number.
+    are_known: Vec<bool>,
     pace: Pace,
     progress: Progress,
     tally: Tally,
@@ -65,6 +84,15 @@ fn limits(deadline: u32) -> Limits
         quiet: 0,
         answer: ANSWER_SECONDS * TICKS_A_SECOND,
     }
+}
+
+/// None of this many meters is known.
+fn all_unknown(alloc: Global, meters: usize) -> Result<Vec<bool>, AllocError> {
+    let mut known = Vec::with_capacity(alloc, meters)?;
+    for _ in 0..meters {
+        known.push(false)?;
+    }
+    Ok(known)
 }
 
 /// Adds the addresses of a place to a schedule.
@@ -99,13 +127,15 @@ impl<
     'l,
     'r,
     R: Net + Files<File = File> + Clock + AllocGlobal + RandomSource,
+    T: FaultText + ValueText,
     O: Output,
     E: Write,
-> Round<'a, 'l, 'r, R, O, E> {
+> Round<'a, 'l, 'r, R, T, O, E> {
     /// A round over these meters on this many seats. `probe` is a path in the folder of the readings files.
     pub fn new(
         rt: &'r R,
         collection: &'l Collection<'a>,
+        texts: &'l T,
         meters: &'l [Meter<'a>],
         probe: &'l str,
         seats: usize,
@@ -122,11 +152,13 @@ impl<
         Ok(Round {
             rt,
             collection,
+            texts,
             meters,
             probe,
             fleet: Fleet::new(alloc, limits(collection.deadline), seats)?,
             wires,
             schedule: Schedule::new(alloc),
+            are_known: all_unknown(alloc, meters.len())?,
             pace: Pace::new(now),
             progress: Progress::new(shows, now),
             tally: Tally::new(),
@@ -170,13 +202,27 @@ impl<
         Ok(())
     }
 
-    /// Has a meter that failed wait again if it has another address or may be tried again; otherwise counts it.
+    /// Whether the meter with this number has shown the text that it has to show.
+    fn is_known(&self, number: usize) -> bool {
+        self.are_known.get(number).copied().unwrap_or(false)
+    }
+
+    /// Keeps whether the meter with this number has shown its text.
+    fn keep_known(&mut self, number: usize, is_known: bool) {
+        if let Some(known) = self.are_known.get_mut(number) {
+            *known = is_known;
+        }
+    }
+
+    /// Has a meter that failed wait again if it has another address or may be tried again; otherwise counts it. It has to show its text
+    /// anew.
     fn fail(
         &mut self,
         number: usize,
         fault: MeterFault,
         was_connected: bool,
     ) -> Result<(), CollectFault<'a>> {
+        self.keep_known(number, false);
         let is_of_line = matches!(fault, MeterFault::Line(_));
         if is_of_line && !was_connected && self.schedule.try_next_address(number)? {
             return Ok(());
@@ -187,7 +233,46 @@ impl<
         self.count_failure(number, fault)
     }
 
-    /// Starts the poll of a meter at an address on a free seat.
+    /// The order for the poll of a meter, which holds its readings file, and its job.
+    fn poll_order(
+        &self,
+        number: usize,
+        meter: &Meter<'a>,
+        folder: &str,
+    ) -> Result<(Order<'r, R>, MeterJob), MeterFault> {
+        let Ok(path) = path_of(self.rt.alloc(), folder, meter.name) else {
+            return Err(MeterFault::Other(RunFault::Memory));
+        };
+        let file = MeterFile::open(self.rt, path)?;
+        let mut order = Order::new(number, Some(file));
+        let job = order.poll(self.rt, meter)?;
+        Ok((order, job))
+    }
+
+    /// What comes next for a meter: its text is requested if one is expected and was not shown yet; then it is polled, or attributes are
+    /// requested.
+    fn order(
+        &self,
+        number: usize,
+        meter: &Meter<'a>,
+    ) -> Result<(Order<'r, R>, MeterJob), MeterFault> {
+        let mut order = Order::new(number, None);
+        if let Some(expected) = meter.expected
+            && !self.is_known(number)
+        {
+            let job = order.ask_text(self.rt, meter, &expected)?;
+            return Ok((order, job));
+        }
+        match self.collection.purpose {
+            Purpose::Poll(folder) => self.poll_order(number, meter, folder),
+            Purpose::Get(_, names) => {
+                let job = order.ask_values(self.rt, meter, names)?;
+                Ok((order, job))
+            }
+        }
+    }
+
+    /// Starts what comes next for a meter at an address, on a free seat.
     fn start(&mut self, number: usize, address: SocketAddr) -> Result<(), MeterFault> {
         let Some(meter) = self.meters.get(number) else {
             return Ok(());
@@ -195,13 +280,8 @@ impl<
         let Some(seat) = self.wires.free_seat() else {
             return Ok(());
         };
-        let alloc = self.rt.alloc();
-        let Ok(path) = path_of(alloc, self.collection.folder, meter.name) else {
-            return Err(MeterFault::Other(RunFault::Memory));
-        };
-        let mut file = MeterFile::open(self.rt, number, path)?;
-        let job = file.job(self.rt, meter)?;
-        if let Err(error) = self.wires.connect(self.rt, address, file) {
+        let (order, job) = self.order(number, meter)?;
+        if let Err(error) = self.wires.connect(self.rt, address, order) {
             return Err(MeterFault::Line(error));
         }
         if let Err(job) = self.fleet.start(seat, job) {
@@ -226,17 +306,23 @@ impl<
         Ok(())
     }
 
-    /// Files the rows of a poll that is done. Returns why they were not filed, if they were not.
-    fn file(
-        &mut self,
-        file: &mut MeterFile<'r, R>,
-        job: &PollJob,
-    ) -> Result<Option<MeterFault>, CollectFault<'a>> {
-        let alloc = self.rt.alloc();
-        let name = match self.meters.get(file.number) {
+    /// The name of the meter with this number.
+    fn name_of(&self, number: usize) -> &'a str {
+        match self.meters.get(number) {
             Some(meter) => meter.name,
             None => "",
-        };
+        }
+    }
+
+    /// Files the rows of a poll that is done, and prints the new ones.
+    fn file(
+        &mut self,
+        number: usize,
+        file: &mut MeterFile<'r, R>,
+        job: &PollJob,
+    ) -> Result<Finished, CollectFault<'a>> {
+        let alloc = self.rt.alloc();
+        let name = self.name_of(number);
         let mut output = Named::rows(alloc, name, self.collection.format, self.output);
         let mut above = AboveProgress::new(&mut self.progress, self.errors);
         let mut errors = Named::messages(alloc, name, &mut above);
@@ -248,16 +334,87 @@ impl<
             Ok(()) => {
                 self.tally.rows = self.tally.rows.saturating_add(output.lines());
                 self.tally.done = self.tally.done.saturating_add(1);
-                Ok(None)
+                Ok(Finished::Filed)
             }
-            Err(fault) => Ok(Some(fault)),
+            Err(fault) => Ok(Finished::Failed(fault)),
         }
     }
 
-    /// Keeps the meter's counter, and files a poll that ended, or counts its failure. Returns whether it put its file.
+    /// Judges the text that a meter showed. If it is the expected one, the meter waits for what comes next.
+    fn judge(
+        &mut self,
+        number: usize,
+        job: &AskJob<Questions>,
+    ) -> Result<Finished, CollectFault<'a>> {
+        let expected = match self.meters.get(number) {
+            Some(meter) => meter.expected,
+            None => None,
+        };
+        let Some(expected) = expected else {
+            return Ok(Finished::Nothing);
+        };
+        match judge_text(job.script().replies(), &expected) {
+            Ok(()) => {
+                self.keep_known(number, true);
+                self.schedule.go_on(number)?;
+                Ok(Finished::Nothing)
+            }
+            Err(fault) => Ok(Finished::Failed(fault)),
+        }
+    }
+
+    /// Prints the values that a meter gave, and counts it as failed if it did not give all.
+    fn print_values(
+        &mut self,
+        number: usize,
+        job: &AskJob<Attributes>,
+    ) -> Result<Finished, CollectFault<'a>> {
+        let name = self.name_of(number);
+        let mut printed = PrintedValues::new(self.rt.alloc());
+        printed.add_all(
+            self.texts,
+            name,
+            self.collection.purpose.names(),
+            job.script().readings(),
+        )?;
+        if self.output.write_out(printed.text.as_slice()).is_err()
+            || self.output.flush_out().is_err()
+        {
+            return Err(CollectFault::Output);
+        }
+        self.tally.rows = self.tally.rows.saturating_add(printed.lines);
+        if printed.faults.is_empty() {
+            self.tally.done = self.tally.done.saturating_add(1);
+            return Ok(Finished::Nothing);
+        }
+        self.tally.failed = self.tally.failed.saturating_add(1);
+        for fault in &printed.faults {
+            self.failures.push((number, *fault))?;
+        }
+        Ok(Finished::Nothing)
+    }
+
+    /// Takes a job that is done.
+    fn take(
+        &mut self,
+        order: &mut Order<'r, R>,
+        job: &MeterJob,
+    ) -> Result<Finished, CollectFault<'a>> {
+        let number = order.number;
+        match job {
+            MeterJob::Poll(job) => match &mut order.file {
+                Some(file) => self.file(number, file, &**job),
+                None => Ok(Finished::Nothing),
+            },
+            MeterJob::Text(job) => self.judge(number, &**job),
+            MeterJob::Values(job) => self.print_values(number, &**job),
+        }
+    }
+
+    /// Keeps the meter's counter, and takes what came of a job that ended, or counts its failure. Returns whether it put its file.
     fn finish(
         &mut self,
-        ended: EndedPoll<MeterFile<'r, R>, Box<PollJob>>,
+        ended: EndedPoll<Order<'r, R>, MeterJob>,
     ) -> Result<bool, CollectFault<'a>> {
         let EndedPoll {
             cargo,
@@ -266,20 +423,21 @@ impl<
             failure,
             was_connected,
         } = ended;
-        let mut file = cargo;
-        let number = file.number;
-        let filed = match (file.keep_counter(&job), outcome) {
-            (Err(fault), _) => Ok(Some(fault)),
-            (Ok(()), Outcome::Done) => self.file(&mut file, &job),
-            (Ok(()), Outcome::Fails(fault)) => Ok(Some(MeterFault::Other(fault))),
-            (Ok(()), Outcome::Lost) => Ok(Some(loss(failure))),
-            (Ok(()), Outcome::Late) => Ok(Some(MeterFault::Late)),
+        let mut order = cargo;
+        let number = order.number;
+        let finished = match (order.keep_counter(&job), outcome) {
+            (Err(fault), _) => Ok(Finished::Failed(fault)),
+            (Ok(()), Outcome::Done) => self.take(&mut order, &job),
+            (Ok(()), Outcome::Fails(fault)) => Ok(Finished::Failed(MeterFault::of_job(fault))),
+            (Ok(()), Outcome::Lost) => Ok(Finished::Failed(loss(failure))),
+            (Ok(()), Outcome::Late) => Ok(Finished::Failed(MeterFault::Late)),
         };
-        drop(file);
+        drop(order);
         drop(job);
-        match filed? {
-            None => Ok(true),
-            Some(fault) => {
+        match finished? {
+            Finished::Filed => Ok(true),
+            Finished::Nothing => Ok(false),
+            Finished::Failed(fault) => {
                 self.fail(number, fault, was_connected)?;
                 Ok(false)
             }
@@ -296,7 +454,8 @@ impl<
             is_put = self.finish(ended)? || is_put;
         }
         if is_put && let Err(error) = sync_folder(self.rt, self.probe) {
-            return Err(CollectFault::System(self.collection.folder, error));
+            let folder = self.collection.purpose.folder().unwrap_or("");
+            return Err(CollectFault::System(folder, error));
         }
         Ok(())
     }

@@ -87,6 +87,12 @@ impl Schedule {
         Ok(true)
     }
 
+    /// Has the meter of this number wait for what comes next, at the same address.
+    pub fn go_on(&mut self, number: usize) -> Result<(), AllocError> {
+        self.queue.push(number)?;
+        Ok(())
+    }
+
     /// Has the meter of this number wait again, unless it was tried again this many times. Returns whether it does.
     pub fn try_again(&mut self, number: usize, most: u32) -> Result<bool, AllocError> {
         let Some(attempts) = self.attempts.get_mut(number) else {

@@ -3,8 +3,8 @@
 ghost use Rattle.std.specs.Prelude.{⊤};
 
 use crate::pace::TICKS_A_SECOND;
-use dlms_ends::RunFault;
 use dlms_fleet::{Job, LineEvent, Lines, Outcome, PIECE, SeatEvent};
+use dlms_inquiries::JobFault;
 use dlms_pages::refuse_standard;
 use mio::net::TcpStream;
 use mio::{Events, Interest, Poll, Token};
@@ -49,7 +49,7 @@ struct Wire<C> {
 pub struct EndedPoll<C, T> {
     /// What it was for.
     pub cargo: C,
-    pub outcome: Outcome<RunFault>,
+    pub outcome: Outcome<JobFault>,
     pub job: T,
     /// Why its connection failed, if it did.
     pub failure: Option<io::Error>,
@@ -429,7 +429,7 @@ impl<C: Drop, T: Drop> Wires<C, T> {
         &mut self,
         number: usize,
         wire: Wire<C>,
-        outcome: Outcome<RunFault>,
+        outcome: Outcome<JobFault>,
         job: T,
     ) -> Result<(), AllocError> {
         let Wire {
@@ -458,7 +458,7 @@ impl<C: Drop, T: Drop> Wires<C, T> {
     }
 }
 
-impl<C: Drop, T: Job<Message = Vec<u8>, Fault = RunFault> + Drop> Lines<T> for Wires<C, T> {
+impl<C: Drop, T: Job<Message = Vec<u8>, Fault = JobFault> + Drop> Lines<T> for Wires<C, T> {
     fn next(&mut self, piece: &mut [u8; PIECE]) -> Option<SeatEvent> {
         if let Some(number) = self.lost.pop() {
             return Some(SeatEvent {
@@ -482,7 +482,7 @@ impl<C: Drop, T: Job<Message = Vec<u8>, Fault = RunFault> + Drop> Lines<T> for W
         }
     }
 
-    fn close(&mut self, number: usize, outcome: Outcome<RunFault>, job: T)
+    fn close(&mut self, number: usize, outcome: Outcome<JobFault>, job: T)
         ensures { ⊤ }
     {
         let Some(seat) = self.seats.get_mut(number) else {
