@@ -12,7 +12,7 @@ use Rattle.dlms_security.specs.declared.policy.Policy.{Policy}
 use Rattle.dlms_security.specs.declared.policy.Policy.TheVariants.{Authenticated, Encrypted, AuthenticatedEncrypted}
 use Rattle.dlms_security.specs.declared.fault.UnprotectFault.TheVariants.{NotProtected, AnotherControl}
 use Rattle.dlms_keys.specs.Settings.{Has, HasOthers, IsHex, Lacks, MayHaveKey, known, size_of}
-use Rattle.dlms_keys.specs.Station.{is_near, opened_by, opens, sender_of}
+use Rattle.dlms_keys.specs.Station.{is_near, is_title, opened_by, opens, sender_of}
 use Rattle.dlms_keys.specs.declared.fault.SettingsFault.{SettingsFault}
 use Rattle.dlms_keys.specs.declared.fault.SettingsFault.TheVariants.{Unknown}
 use Rattle.dlms_keys.specs.declared.fault.StationsFault.{StationsFault}
@@ -100,6 +100,10 @@ any_opening ss known policy header message = find (λ s. opens known policy head
 
 abbrev pub near_station : List Station → Known → Header → Option Station
 near_station ss known header = find (λ s. is_near known header s) ss
+
+-- the first station with this title
+abbrev pub titled_station : List ℕ → List Station → Option Station
+titled_station title ss = find (λ s. is_title s.title (Some title)) ss
 
 abbrev pub or_station : Option Station → Option Station → Option Station
 or_station (Some s) other = Some s

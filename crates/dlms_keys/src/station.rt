@@ -99,7 +99,7 @@ pub(crate) fn opens(
 }
 
 /// Whether a title is this one.
-fn is_title(title: &[u8; 8], other: Option<[u8; 8]>) -> bool
+pub(crate) fn is_title(title: &[u8; 8], other: Option<[u8; 8]>) -> bool
     ensures { result ≡ is_title title.now other }
 {
     match other {

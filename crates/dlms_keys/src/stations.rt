@@ -6,12 +6,12 @@ ghost use Rattle.toml.specs.View.{array_view, view, table_view};
 ghost use Rattle.dlms_security.specs.Opening.{header_in};
 ghost use Rattle.dlms_keys.specs.Settings.{size_of};
 ghost use Rattle.dlms_keys.specs.Keyring.{IsRefusedKeyring, IsRefusedList, IsRefusedStation, IsRefusedText, IsRefusedValue, ReadAsKeyring, SayStations, SaysKeyring, SaysStation, SaysValue, station_at};
-ghost use Rattle.dlms_keys.specs.Keyring.{any_opening, has_tag, is_tagged, near_opening, near_station, opening_among, opening_by_policy, station_for};
+ghost use Rattle.dlms_keys.specs.Keyring.{any_opening, has_tag, is_tagged, near_opening, near_station, opening_among, opening_by_policy, station_for, titled_station};
 
 use crate::fault::{SettingsFault, StationsFault};
 use crate::members::{has_others, key_of, optional_key_of, title_of};
 use crate::setting::Setting;
-use crate::station::{Station, first_title, is_near, open_with, opens};
+use crate::station::{Station, first_title, is_near, is_title, open_with, opens};
 use arrayvec::ArrayVec;
 use dlms_security::{
     Closed, Header, Known, MOST_APDU, Opener, Plain, Policy, UnprotectFault, header_of,
@@ -241,6 +241,16 @@ impl Stations {
             None if sender.is_some() => Err(Closed::NoKey),
             None => Err(Closed::UnknownTitle),
         }
+    }
+
+    /// The first station with this title.
+    pub fn station_of(&self, title: [u8; 8]) -> Option<Station>
+        ensures { result ≡ titled_station title self.now.stations.items }
+    {
+        self.stations
+            .iter()
+            .copied()
+            .find(|s| is_title(&s.title, Some(title)))
     }
 
     /// Returns the APDU in a message of a log, or why it is not opened. The keys are those of its sender or receiver, by its own

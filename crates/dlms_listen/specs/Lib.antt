@@ -1,0 +1,3 @@
+pub mod Notification
+pub mod Joined
+pub mod Sender

@@ -1,0 +1,22 @@
+//! What carries the APDUs of a line.
+
+/// The first octet of a message of the wrapper, whose version is 1 in two octets (IEC 62056-47).
+const VERSION: u8 = 0;
+
+/// What carries the APDUs of a line.
+#[derive(Clone, Copy, Debug, PartialEq, Eq)]
+pub enum Carrier {
+    /// HDLC frames.
+    Hdlc,
+    /// Messages of the TCP and UDP wrapper.
+    Wrapper,
+}
+
+/// The carrier of a line that begins with this octet: the wrapper, or HDLC, perhaps within a frame.
+pub fn carrier_of(first: u8) -> Carrier {
+    if first == VERSION {
+        Carrier::Wrapper
+    } else {
+        Carrier::Hdlc
+    }
+}

@@ -1,0 +1,20 @@
+//! What meters push: the octets of a line in, their notifications out.
+#![tactic(auto)]
+
+mod blocks;
+mod carrier;
+mod counters;
+mod entries;
+mod fault;
+mod listener;
+mod notification;
+mod receiver;
+mod segments;
+
+pub use carrier::{Carrier, carrier_of};
+pub use counters::{Sender, Senders};
+pub use entries::{Entry, entries_of};
+pub use fault::{Refusal, Skip};
+pub use listener::Listener;
+pub use notification::{Notification, read_notification};
+pub use receiver::{Received, Receiver, Seal};
