@@ -12,10 +12,10 @@ use crate::frame_text::{write_frame, write_stray};
 use crate::json::{begin_note, end_note, write_note};
 use crate::layout::Layout;
 use crate::logged::{Logged, is_xml, logged_of, timed_of};
+use crate::messages::Messages;
 use crate::session::Form;
 use crate::short::{Beside, View, write_view};
 use crate::words::{Text, end, line};
-use crate::wrapper::Wrapped;
 use dlms_dissect::{
     Control, Found, Line, Side, Stretch, Talk, Talks, first_piece, heading_of, line_of, parties_of,
     read, side_of,
@@ -37,7 +37,7 @@ pub struct Explainer<A: Allocator = Global, O = NoKeys> {
     talks: Talks<A>,
     view: View<A, O>,
     /// APDUs that are in no frame.
-    pub(crate) wrapped: Wrapped<A, O>,
+    pub(crate) wrapped: Messages<A, O>,
     /// How far a dump has come whose lines stand here.
     dump: Option<Offset>,
 }
@@ -232,7 +232,7 @@ impl<A: Allocator + Copy, O: Opener> Explainer<A, O> {
             bare: Stretch::new(alloc),
             talks: Talks::new(alloc, form.raw),
             view: View::new(alloc, form, opener),
-            wrapped: Wrapped::new(alloc, form, opener),
+            wrapped: Messages::new(alloc, form, opener),
             dump: None,
         }
     }

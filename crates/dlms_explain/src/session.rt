@@ -18,16 +18,16 @@ use std::io::{ErrorKind, Read, Write};
 pub const MOST_LINE: usize = 65_536;
 
 /// How many octets are read at once.
-const ROOM: usize = 4096;
+pub const ROOM: usize = 4096;
 
 /// The number of octets by which a capture is distinguished from lines.
-const FRONT: usize = 4;
+pub const FRONT: usize = 4;
 
 /// The octet that begins the sequences of a terminal (ECMA-48, ESC), as logs have them too.
 const ESCAPE: u8 = 0x1b;
 
 /// Whether an input is octets and no lines: its first ones begin a frame or an association's APDU, or one of them is in no text.
-fn are_octets(front: &[u8]) -> bool {
+pub fn are_octets(front: &[u8]) -> bool {
     matches!(
         front,
         [0x7e, 0xa0..=0xaf, ..] | [0x60..=0x63, _, 0x80..=0xff, ..]
@@ -83,17 +83,17 @@ impl Form {
 
 /// An explanation under way: the line that comes, and the text that is not written yet.
 #[derive(Drop)]
-struct Session<A: Allocator, O> {
+pub struct Session<A: Allocator, O> {
     explainer: Explainer<A, O>,
     layout: Layout,
     line: Vec<u8, A>,
     is_long: bool,
-    text: Text<A>,
+    pub text: Text<A>,
 }
 
 impl<A: Allocator + Copy, O: Opener> Session<A, O> {
     /// Before the first octet. No memory is taken here.
-    fn new(alloc: A, form: Form, opener: O) -> Self {
+    pub fn new(alloc: A, form: Form, opener: O) -> Self {
         Session {
             explainer: Explainer::with_opener(alloc, form, opener),
             layout: form.layout,
@@ -130,7 +130,7 @@ impl<A: Allocator + Copy, O: Opener> Session<A, O> {
     }
 
     /// Takes octets of the input, and appends the explanation of the lines that are then complete.
-    fn take(&mut self, octets: &[u8]) {
+    pub fn take(&mut self, octets: &[u8]) {
         let mut rest = octets;
         for _ in 0..octets.len() {
             let Some(at) = memchr(b'\n', rest) else {
@@ -146,8 +146,13 @@ impl<A: Allocator + Copy, O: Opener> Session<A, O> {
         self.keep(rest);
     }
 
+    /// Takes octets that are in no lines.
+    pub fn take_octets(&mut self, octets: &[u8]) {
+        self.explainer.take_line(None, octets, &mut self.text);
+    }
+
     /// The input is at its end, perhaps within a line.
-    fn end(&mut self) {
+    pub fn end(&mut self) {
         if self.is_long || !self.line.is_empty() {
             self.tell_line();
         }
@@ -263,7 +268,7 @@ fn tell_octets<A: Allocator + Copy, O: Opener, R: Read, W: Write>(
     let mut count = read_some(input, &mut room[front..])?.saturating_add(front);
     for _ in 0..u64::MAX {
         let octets = room.get(..count).unwrap_or(&[]);
-        session.explainer.take_line(None, octets, &mut session.text);
+        session.take_octets(octets);
         write_text(&mut session.text, output)?;
         count = read_some(input, room)?;
         if count == 0 {
