@@ -46,6 +46,9 @@ const FEW_COUNTERS: u32 = 1_000;
 /// The frame counters for a further name: its value in a few blocks, its scaler, and the answer's confirmations.
 const NAME_COUNTERS: u32 = 16;
 
+/// How many attributes of an object list are read at most with the counters of one association.
+const MOST_LISTED: usize = 4_096;
+
 /// The octets of a value in a block, for which further counters are reserved.
 const LEAST_BLOCK: u32 = 512;
 
@@ -293,6 +296,7 @@ fn counters_for(asking: &Asking<'_>, request: &Request<'_>) -> u32 {
     let names = match request {
         Request::Set { .. } | Request::Act { .. } | Request::Clock(_) => return FEW_COUNTERS,
         Request::Get { names, .. } => names.bytes().filter(|octet| *octet == b',').count(),
+        Request::List { form } if form.has_values() => MOST_LISTED,
         _ => 0,
     };
     let for_names = u32::try_from(names)
@@ -646,7 +650,8 @@ pub fn ask_to_list<
     E: Write,
 >(host: &H, options: &ListOptions<'a>, output: &mut W, errors: &mut E) -> Result<(), Fault<'a>> {
     let form = match (options.format, options.long) {
-        (OutputFormat::Json, _) => ListForm::Json,
+        (OutputFormat::Json, true) => ListForm::LongJson,
+        (OutputFormat::Json, false) => ListForm::Json,
         (OutputFormat::Text, true) => ListForm::Long,
         (OutputFormat::Text, false) => ListForm::Columns,
     };

@@ -10,6 +10,7 @@ mod explained_stream;
 mod given;
 mod guards;
 mod keys;
+mod listing;
 mod profile;
 mod requests;
 mod route;

@@ -1,11 +1,12 @@
 //! Rows of a profile: the requests for its columns and its buffer.
 
-use crate::requests::{MeterSession, is_answer, read_name, scaler_of};
+use crate::requests::{MeterSession, is_answer, read_name};
 use dlms_buffer::{BufferFault, Column, by_range, column_of, first_of_last, from_entry};
 use dlms_call::{CallFault, Watch, get_part_watched, get_watched};
 use dlms_data::{Descriptor, LAST_SECOND, Selector, octets, secs};
 use dlms_ends::End;
 use dlms_faults::Fault;
+use dlms_inquiries::scaler_of;
 use dlms_printing::{ColumnShape, Following, RowPrinter, Showing, Table};
 use dlms_values::{Value, read};
 use dlms_words::{ProfileOptions, TableFormat, number};

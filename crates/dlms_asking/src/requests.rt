@@ -9,8 +9,9 @@ use dlms_client::Answer;
 use dlms_data::{Data, Descriptor, LAST_SECOND};
 use dlms_ends::End;
 use dlms_faults::Fault;
-use dlms_printing::{ListForm, Teller, class_named};
-use dlms_text::{Front, Name, ValueFault, front_of, value_of, written_name};
+use dlms_inquiries::{class_by_name, class_named, object_list, scale_of, scaler_of};
+use dlms_printing::Teller;
+use dlms_text::{Name, ValueFault, value_of, written_name};
 use dlms_words::ValueFormat;
 use std::alloc::Global;
 use std::io::Write;
@@ -18,34 +19,13 @@ use std::io::Write;
 /// The second of the system's clock, counted from 1970-01-01 00:00:00, at which the meter's begins.
 const BEGINNING: u64 = 946_684_800;
 
-/// The class of an association that is made by logical names, and the name of the current one (IEC 62056-6-2, Association LN).
-const ASSOCIATION: u16 = 15;
-
-const CURRENT: [u8; 6] = [0, 0, 40, 0, 0, 255];
-
-/// The attribute of its object list, and of what most classes keep.
+/// The attribute of what most classes keep.
 pub const SECOND: u8 = 2;
 
-/// The classes Register, Extended register and Demand register.
-const REGISTER: u16 = 3;
-
-const EXTENDED: u16 = 4;
-
-const DEMAND: u16 = 5;
-
-/// The tags of an octet-string, of an integer, of an enum and of a date-time (A-XDR, IEC 62056-6-2, common data types).
+/// The tags of an octet-string and of a date-time (A-XDR, IEC 62056-6-2, common data types).
 const OCTET_STRING: u8 = 9;
 
-const INTEGER: u8 = 15;
-
-const ENUM: u8 = 22;
-
 const DATE_TIME: u8 = 25;
-
-/// The classes Data and SAP assignment.
-const DATA: u16 = 1;
-
-const ASSIGNMENT: u16 = 17;
 
 /// The class Clock, whose time its attribute 2 is.
 pub const CLOCK: u16 = 8;
@@ -62,18 +42,6 @@ pub fn second_of(seconds: u64) -> Option<u32>
         Some(second)
     } else {
         None
-    }
-}
-
-/// The class of a name that means the same object in each meter: the clock, the current association, the SAP assignment and the
-/// logical device name (IEC 62056-6-1).
-fn class_by_name(code: [u8; 6]) -> Option<u16> {
-    match code {
-        [0, 0, 1, 0, 0, 255] => Some(CLOCK),
-        CURRENT => Some(ASSOCIATION),
-        [0, 0, 41, 0, 0, 255] => Some(ASSIGNMENT),
-        [0, 0, 42, 0, 0, 255] => Some(DATA),
-        _ => None,
     }
 }
 
@@ -112,26 +80,6 @@ pub fn read_value(alloc: Global, text: &str, now: u32) -> Result<Data<Global>, F
         Err(ValueFault::Form) => Err(Fault::Value(text)),
         Err(ValueFault::Memory) => Err(Fault::MEMORY),
     }
-}
-
-/// The scaler and the unit in an encoding, if it encodes a structure of both.
-fn scale_of(bytes: &[u8]) -> Option<(i8, u8)> {
-    match front_of(bytes) {
-        (Front::Structure(2), [INTEGER, scaler, ENUM, unit]) => {
-            Some((i8::from_be_bytes([*scaler]), *unit))
-        }
-        _ => None,
-    }
-}
-
-/// The attribute with the scaler and the unit of a register's value; `None` if it has none.
-pub fn scaler_of(attribute: Descriptor) -> Option<Descriptor> {
-    let id = match (attribute.class, attribute.id) {
-        (REGISTER, 2) | (EXTENDED, 2) => 3,
-        (DEMAND, 2) | (DEMAND, 3) => 4,
-        _ => return None,
-    };
-    Some(Descriptor { id, ..attribute })
 }
 
 /// Whether a fault is of one name, after which others can be asked for.
@@ -173,13 +121,8 @@ impl<'a, S: End> MeterSession<'a, '_, S> {
     }
 
     /// Asks for the object list.
-    fn fetch_list(&mut self) -> Result<(), Fault<'a>> {
-        let attribute = Descriptor {
-            class: ASSOCIATION,
-            name: CURRENT,
-            id: SECOND,
-        };
-        self.fetch("0.0.40.0.0.255/2", attribute)
+    pub fn fetch_list(&mut self) -> Result<(), Fault<'a>> {
+        self.fetch("0.0.40.0.0.255/2", object_list())
     }
 
     /// Reads the object list, unless that was tried before. One that the meter refuses is empty.
@@ -377,14 +320,6 @@ impl<'a, S: End> MeterSession<'a, '_, S> {
         let told = self.get_each(&mut list, names, class, printing, output);
         drop(list);
         told
-    }
-
-    /// Prints the object list.
-    #[inline(never)]
-    pub fn list_all<W: Write>(&mut self, form: ListForm, output: &mut W) -> Result<(), Fault<'a>> {
-        self.fetch_list()?;
-        let mut teller = Teller::new(self.alloc, self.place, output);
-        teller.put_objects(self.head.value(), form)
     }
 
     /// The attribute that a text names.

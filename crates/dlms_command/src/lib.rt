@@ -32,7 +32,9 @@ use std::{fs, io};
 
 mod demo;
 mod expected;
+mod filed;
 mod introduced;
+mod listening;
 mod looking;
 mod meters;
 mod named;
@@ -43,6 +45,7 @@ mod streams;
 mod watched;
 
 pub use dlms_faults::Fault;
+use listening::run_listen;
 use looking::{run_explain, run_plot, run_show};
 use meters::run_collect;
 use named::{print_completions, print_manual, print_names};
@@ -453,6 +456,7 @@ fn run_job<
         Job::Replay(None) => run_replay_memory(host, input, output),
         Job::Loopback(options) => unread(run_loopback(host, &options, output), input),
         Job::Serve(options) => unread(run_serve(host, &options, output, errors), input),
+        Job::Listen(options) => run_listen(host, &options, input, output, errors),
         Job::Poll(options) => { unread(run_poll(host, &options, terminals, output, errors), input) }
         Job::Collect(options) => {
             let is_terminal = terminals.errors && !terminals.output;

@@ -2,11 +2,12 @@
 
 use crate::Fault;
 use dlms_collecting::{
-    CollectFault, Collection, Defaults, FailedMeter, FaultText, ListFault, PollFailure, RowFormat,
-    collect,
+    CollectFault, Collection, Defaults, FailedMeter, FaultText, ListFault, MeterFailure,
+    MeterValue, Purpose, Refusal, RowFormat, ValueText, collect,
 };
-use dlms_printing::append_fault_json;
-use dlms_words::{CollectOptions, OutputFormat};
+use dlms_printing::{Teller, append_fault_json};
+use dlms_text::{Name, written_name};
+use dlms_words::{CollectOptions, OutputFormat, ValueFormat};
 use std::alloc::{AllocError, Global};
 use std::fs;
 use std::fs::{File, Files};
@@ -15,9 +16,12 @@ use std::net::Net;
 use std::random::RandomSource;
 use std::time::Clock;
 
-/// The messages of `poll`, as text or as JSON.
+/// The most attributes that are requested of a meter.
+const MOST_NAMES: usize = 16;
+
+/// The messages of `poll` and `get`, and values, as text or as JSON.
 #[derive(Drop)]
-struct PollTexts {
+struct MeterTexts {
     alloc: Global,
     format: OutputFormat,
 }
@@ -52,17 +56,96 @@ fn fault_of_meter<'a>(alloc: Global, failed: &FailedMeter<'a>) -> Fault<'a> {
     let file = Some(failed.file);
     let secret_file = Some(failed.secret_file);
     match failed.fault {
-        PollFailure::Poll(fault) => Fault::of_field(alloc, failed.place, file, secret_file, fault),
-        PollFailure::Guard(fault) => Fault::of_guard(alloc, failed.place, failed.security, fault),
+        MeterFailure::Poll(fault) => Fault::of_field(alloc, failed.place, file, secret_file, fault),
+        MeterFailure::Guard(fault) => Fault::of_guard(alloc, failed.place, failed.security, fault),
+        MeterFailure::Attribute(name, Refusal::Class) => Fault::Class(name),
+        MeterFailure::Attribute(name, Refusal::Result(code)) => Fault::Result(name, code, false),
+        MeterFailure::Attribute(name, Refusal::Denied(denial)) => Fault::Denied(name, denial),
     }
 }
 
-impl FaultText for PollTexts {
+impl FaultText for MeterTexts {
     fn append_fault(&self, line: &mut Vec<u8>, failed: &FailedMeter<'_>) -> Result<(), AllocError> {
         let fault = fault_of_meter(self.alloc, failed);
         let appended = append_failure(self.alloc, line, self.format, failed.name, &fault);
         drop(fault);
         appended
+    }
+}
+
+/// A line of JSON without the brace that opens it and the line feed at its end.
+fn without_brace(line: &[u8]) -> &[u8] {
+    line.strip_prefix(b"{").unwrap_or(line)
+}
+
+/// Appends a text as a field of CSV: between quotes if it has a comma, a quote or a line feed (RFC 4180).
+fn append_field(text: &mut Vec<u8>, field: &[u8]) -> Result<(), AllocError> {
+    let is_plain = !field
+        .iter()
+        .any(|octet| matches!(*octet, b',' | b'"' | b'\n' | b'\r'));
+    if is_plain {
+        return text.extend_from_slice(field);
+    }
+    text.extend_from_slice(b"\"")?;
+    for octet in field {
+        if *octet == b'"' {
+            text.extend_from_slice(b"\"")?;
+        }
+        text.extend_from_slice(&[*octet])?;
+    }
+    text.extend_from_slice(b"\"")
+}
+
+/// Appends the line of a value that is printed so by `get`.
+fn append_told(
+    text: &mut Vec<u8>,
+    format: OutputFormat,
+    value: &MeterValue<'_>,
+    told: &[u8],
+) -> Result<(), AllocError> {
+    if format == OutputFormat::Json {
+        text.extend_from_slice(b"{\"meter\":\"")?;
+        text.extend_from_slice(value.meter.as_bytes())?;
+        text.extend_from_slice(b"\",")?;
+        return text.extend_from_slice(without_brace(told));
+    }
+    text.extend_from_slice(value.meter.as_bytes())?;
+    text.extend_from_slice(b",")?;
+    append_field(text, value.name.as_bytes())?;
+    text.extend_from_slice(b",")?;
+    append_field(text, told.strip_suffix(b"\n").unwrap_or(told))?;
+    text.extend_from_slice(b"\n")
+}
+
+impl MeterTexts {
+    /// What `get` prints of a value; none if the encoding is no value.
+    fn told(&self, value: &MeterValue<'_>) -> Result<Option<Vec<u8>>, AllocError> {
+        let format = match self.format {
+            OutputFormat::Text => ValueFormat::Text,
+            OutputFormat::Json => ValueFormat::Json,
+        };
+        let mut told = Vec::new(self.alloc);
+        let mut teller = Teller::new(self.alloc, "", &mut told);
+        let put = teller.put_value(value.attribute, value.value, format, value.scale);
+        drop(teller);
+        match put {
+            Ok(()) => Ok(Some(told)),
+            Err(Fault::Call(..)) => Ok(None),
+            Err(fault) => {
+                drop(fault);
+                Err(AllocError)
+            }
+        }
+    }
+}
+
+impl ValueText for MeterTexts {
+    fn append_value(&self, text: &mut Vec<u8>, value: &MeterValue<'_>) -> Result<bool, AllocError> {
+        let Some(told) = self.told(value)? else {
+            return Ok(false);
+        };
+        append_told(text, self.format, value, told.as_slice())?;
+        Ok(true)
     }
 }
 
@@ -84,8 +167,8 @@ fn fault_of<'a>(alloc: Global, options: &CollectOptions<'a>, fault: CollectFault
                 Err(_) => Fault::MEMORY,
             }
         }
-        CollectFault::System(place, error) if place == options.readings => {
-            Fault::of_system(alloc, options.readings, &error)
+        CollectFault::System(place, error) if Some(place) == options.readings => {
+            Fault::of_system(alloc, options.readings.unwrap_or(""), &error)
         }
         CollectFault::System(_, error) => {
             Fault::of_system(alloc, options.failed.unwrap_or(options.list), &error)
@@ -96,7 +179,25 @@ fn fault_of<'a>(alloc: Global, options: &CollectOptions<'a>, fault: CollectFault
     }
 }
 
-/// Polls the meters of a list, whose text this is.
+/// The names of attributes in a text, with commas between them; none without a text.
+fn names_of<'a>(alloc: Global, text: Option<&'a str>) -> Result<Vec<Name>, Fault<'a>> {
+    let mut names = Vec::new(alloc);
+    let Some(text) = text else {
+        return Ok(names);
+    };
+    for word in text.split(',') {
+        let Some(name) = written_name(word) else {
+            return Err(Fault::Name(word));
+        };
+        if names.len() >= MOST_NAMES {
+            return Err(Fault::Names(text));
+        }
+        names.push(name)?;
+    }
+    Ok(names)
+}
+
+/// Polls the meters of a list, whose text this is, or requests these attributes of them.
 fn collect_text<
     'a,
     H: Net + Files<File = File> + Clock + AllocGlobal + RandomSource,
@@ -106,13 +207,17 @@ fn collect_text<
     host: &H,
     options: &CollectOptions<'a>,
     text: &str,
+    names: &[Name],
     is_terminal: bool,
     output: &mut W,
     errors: &mut E,
 ) -> Result<(), Fault<'a>> {
     let collection = Collection {
         list: text,
-        folder: options.readings,
+        purpose: match options.get {
+            Some(written) => Purpose::Get(written, names),
+            None => Purpose::Poll(options.readings.unwrap_or("")),
+        },
         defaults: Defaults {
             client: options.client.and_then(|sap| u8::try_from(sap).ok()),
             secret_file: options.secret_file,
@@ -125,7 +230,7 @@ fn collect_text<
         quiet: options.quiet,
         failed: options.failed,
     };
-    let texts = PollTexts {
+    let texts = MeterTexts {
         alloc: host.alloc(),
         format: options.format,
     };
@@ -136,7 +241,7 @@ fn collect_text<
     }
 }
 
-/// Polls the meters of the list in a file, many at once.
+/// Polls the meters of the list in a file, many at once, or requests attributes of them.
 #[inline(never)]
 pub fn run_collect<
     'a,
@@ -150,9 +255,18 @@ pub fn run_collect<
     output: &mut W,
     errors: &mut E,
 ) -> Result<(), Fault<'a>> {
+    let names = names_of(host.alloc(), options.get)?;
     match fs::read_to_string(host, options.list) {
         Ok(text) => {
-            let told = collect_text(host, options, text.as_str(), is_terminal, output, errors);
+            let told = collect_text(
+                host,
+                options,
+                text.as_str(),
+                names.as_slice(),
+                is_terminal,
+                output,
+                errors,
+            );
             drop(text);
             told
         }

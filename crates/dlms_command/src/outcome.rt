@@ -24,6 +24,7 @@ pub fn prints_json(job: &Job<'_>) -> bool {
         Job::Profile(options) => return options.format == TableFormat::Json,
         Job::Collect(options) => options.format,
         Job::List(options) => options.format,
+        Job::Listen(options) => options.format,
         Job::Clock(options) => options.format,
         Job::Explain(options) => options.format,
         Job::Poll(options) => options.format,
@@ -43,6 +44,7 @@ fn may_be_cut(job: &Job<'_>) -> bool {
         job,
         Job::Explain(_)
             | Job::List(_)
+            | Job::Listen(_)
             | Job::Profile(_)
             | Job::Show(_)
             | Job::Plot(_)

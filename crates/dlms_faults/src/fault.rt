@@ -68,6 +68,8 @@ pub enum Fault<'a> {
     Stranger(&'a str, Expected<'a>),
     /// This is no name of an attribute or a method.
     Name(&'a str),
+    /// These are more names than may be requested of each meter of a list.
+    Names(&'a str),
     /// No object has this word in its code, its alias or its name.
     Unnamed(&'a str),
     /// This is no address of a meter.
@@ -276,6 +278,7 @@ impl<'a> Fault<'a> {
             | Fault::Expect(place)
             | Fault::Stranger(place, _)
             | Fault::Name(place)
+            | Fault::Names(place)
             | Fault::Unnamed(place)
             | Fault::Unfit(place, _)
             | Fault::Untyped(place)
@@ -658,6 +661,7 @@ impl fmt::Display for Fault<'_> {
                 f,
                 "name\n  {text}: a name is expected as 1-0:1.8.0*255, 1.0.1.8.0.255 or a word such as clock, and /3 after it for attribute 3\n  dlms names lists the words"
             ),
+            Fault::Names(text) => write!(f, "name\n  {text}: at most 16 names are expected"),
             Fault::Unnamed(word) => write!(
                 f,
                 "name\n  {word}: no object has this in its code, its alias or its name"

@@ -33,7 +33,7 @@ fn append_scale(text: &mut Vec<u8>, scaler: i8, unit: u8) -> Result<(), AllocErr
 }
 
 /// Appends the time that a clock shows, if it shows one.
-fn append_shown(
+pub fn append_shown(
     text: &mut Vec<u8>,
     label: &[u8],
     shown: Option<[u8; 12]>,
@@ -53,16 +53,41 @@ impl<'a, W: Write> Teller<'a, '_, W> {
         scaled: Option<(i8, u8)>,
     ) -> Result<(), Fault<'a>> {
         append_front(&mut self.text, attribute, b"\",\"attribute\":")?;
-        self.text.extend_from_slice(b",\"value\":")?;
+        self.text.extend_from_slice(b",")?;
+        self.put_scaled_members(attribute, bytes, scaled)?;
+        self.text.extend_from_slice(b"}\n")?;
+        self.flush()
+    }
+
+    /// The members of an object with the value of an attribute, and its scaler and unit if it has them.
+    fn put_scaled_members(
+        &mut self,
+        attribute: Descriptor,
+        bytes: &[u8],
+        scaled: Option<(i8, u8)>,
+    ) -> Result<(), Fault<'a>> {
+        self.text.extend_from_slice(b"\"value\":")?;
         let is_time = is_time(attribute.class, i16::from(attribute.id));
         match scaled {
             Some((scaler, unit)) => {
                 self.put_typed(bytes, is_time, Some(scaler))?;
                 append_scale(&mut self.text, scaler, unit)?;
+                Ok(())
             }
-            None => self.put_typed(bytes, is_time, None)?,
+            None => self.put_typed(bytes, is_time, None),
         }
-        self.text.extend_from_slice(b"}\n")?;
+    }
+
+    /// Prints the value of an attribute as an object, with its scaler and unit if it has them.
+    pub fn put_value_json(
+        &mut self,
+        attribute: Descriptor,
+        bytes: &[u8],
+        scaled: Option<(i8, u8)>,
+    ) -> Result<(), Fault<'a>> {
+        self.text.extend_from_slice(b"{")?;
+        self.put_scaled_members(attribute, bytes, scaled)?;
+        self.text.extend_from_slice(b"}")?;
         self.flush()
     }
 

@@ -7,6 +7,7 @@ mod fault_json;
 mod json_text;
 mod last_texts;
 mod listed_rows;
+mod notified;
 mod object_list;
 mod objects;
 mod other_values;
@@ -20,7 +21,9 @@ mod values;
 pub use attributes_json::ClockChange;
 pub use fault_json::{append_fault_json, put_fault};
 pub use json_text::append_member;
-pub use objects::{ListForm, class_named};
+pub use notified::Notified;
+pub use object_list::{NoValues, Values};
+pub use objects::ListForm;
 pub use progress::{
     BytesSeen, Following, Progress, RowsSeen, Seen, Showing, Unfollowed, append_closing,
 };

@@ -5,12 +5,8 @@ use crate::values::{append_code, append_labelled};
 use dlms_data::Data;
 use dlms_explain::write_code;
 use dlms_names::class_of;
-use dlms_text::{
-    Entry, Front, ValueFault, append_quoted, class_in, entry_of, first_of, front_of, right_of,
-    value_at,
-};
+use dlms_text::{Entry, ValueFault, append_quoted, entry_of, right_of, value_at};
 use std::alloc::{AllocError, Global};
-use std::slice;
 
 /// The most octets of an entry that is read: far more than 255 attributes and as many methods take.
 const MOST_ENTRY: usize = 16_384;
@@ -18,12 +14,26 @@ const MOST_ENTRY: usize = 16_384;
 /// The width of the name of an attribute or a method, with a blank: few names are longer.
 const PART_WIDTH: usize = 32;
 
-/// How an object list is printed: a line an object in columns, with a line for each attribute and method by its name, or as JSON.
+/// How an object list is printed: a line an object in columns; a line for each attribute and method, with its name and the values that
+/// can be read; or as JSON, without values or with them.
 #[derive(Clone, Copy, Debug, PartialEq, Eq)]
 pub enum ListForm {
     Columns,
     Long,
     Json,
+    LongJson,
+}
+
+impl ListForm {
+    /// Whether it is JSON.
+    pub fn is_json(self) -> bool {
+        matches!(self, ListForm::Json | ListForm::LongJson)
+    }
+
+    /// Whether values are printed too.
+    pub fn has_values(self) -> bool {
+        matches!(self, ListForm::Long | ListForm::LongJson)
+    }
 }
 
 /// The widths of the columns of an object list.
@@ -151,31 +161,38 @@ fn part_name(class: u16, is_method: bool, number: u8) -> &'static str {
     }
 }
 
-/// Appends a line for each attribute, or for each method: its number, its name and the right to it.
-fn append_parts(
+/// Appends an attribute, or a method: its number, its name and the right to it.
+pub fn append_part(
     text: &mut Vec<u8>,
     class: u16,
-    word: &[u8],
-    rights: &[Data<Global>],
     is_method: bool,
+    number: u8,
+    mode: u8,
 ) -> Result<(), AllocError> {
-    for right in rights {
-        if let Some((number, mode)) = right_of(right) {
-            append_labelled(text, word, u64::from(number))?;
-            text.extend_from_slice(if number < 10 { b"    " } else { b"   " })?;
-            let begin = text.len();
-            text.extend_from_slice(part_name(class, is_method, number).as_bytes())?;
-            let length = text.len().saturating_sub(begin);
-            append_blanks(text, PART_WIDTH.saturating_sub(length).max(1))?;
-            text.extend_from_slice(right_name(is_method, mode).as_bytes())?;
-            text.extend_from_slice(b"\n")?;
-        }
-    }
-    Ok(())
+    let word: &[u8] = if is_method {
+        b"  method    "
+    } else {
+        b"  attribute "
+    };
+    append_labelled(text, word, u64::from(number))?;
+    text.extend_from_slice(if number < 10 { b"    " } else { b"   " })?;
+    let begin = text.len();
+    text.extend_from_slice(part_name(class, is_method, number).as_bytes())?;
+    let length = text.len().saturating_sub(begin);
+    append_blanks(text, PART_WIDTH.saturating_sub(length).max(1))?;
+    text.extend_from_slice(right_name(is_method, mode).as_bytes())
 }
 
-/// Appends an entry with a line for each of its attributes and methods.
-fn append_entry_long(
+/// The attribute that every class has, the name under which the object is listed (IEC 62056-6-2).
+const LOGICAL_NAME: u8 = 1;
+
+/// Whether an attribute says more than its object's name, and this access mode lets it be read.
+pub fn has_value(number: u8, mode: u8) -> bool {
+    number != LOGICAL_NAME && matches!(mode, 1 | 3 | 4 | 6)
+}
+
+/// Appends the line of an entry that stands above those of its attributes and methods.
+pub fn append_heading(
     alloc: Global,
     text: &mut Vec<u8>,
     entry: &Entry<'_, Global>,
@@ -183,9 +200,7 @@ fn append_entry_long(
     append_name(alloc, text, entry.name)?;
     text.extend_from_slice(b" | ")?;
     append_class(text, entry)?;
-    text.extend_from_slice(b"\n")?;
-    append_parts(text, entry.class, b"  attribute ", entry.attributes, false)?;
-    append_parts(text, entry.class, b"  method    ", entry.methods, true)
+    text.extend_from_slice(b"\n")
 }
 
 /// The name of a class.
@@ -216,19 +231,18 @@ fn append_rights_json(
     text.extend_from_slice(b"}")
 }
 
-/// Appends an entry of the object list as an object of JSON.
-fn append_entry_json(text: &mut Vec<u8>, entry: &Entry<'_, Global>) -> Result<(), AllocError> {
+/// Appends an entry of the object list as an object of JSON, without its closing brace.
+pub fn append_open_json(text: &mut Vec<u8>, entry: &Entry<'_, Global>) -> Result<(), AllocError> {
     text.extend_from_slice(b"{\"name\":\"")?;
     append_code(text, entry.name)?;
     append_labelled(text, b"\",\"class\":", u64::from(entry.class))?;
     append_labelled(text, b",\"version\":", u64::from(entry.version))?;
     append_rights_json(text, b",\"attributes\":{", entry.attributes, false)?;
-    append_rights_json(text, b",\"methods\":{", entry.methods, true)?;
-    text.extend_from_slice(b"}")
+    append_rights_json(text, b",\"methods\":{", entry.methods, true)
 }
 
 /// The value of an element of an object list; `None` if it is longer than an entry can be.
-fn element_of(alloc: Global, element: &[u8]) -> Result<Option<Data<Global>>, ValueFault> {
+pub fn element_of(alloc: Global, element: &[u8]) -> Result<Option<Data<Global>>, ValueFault> {
     if element.len() > MOST_ENTRY {
         return Ok(None);
     }
@@ -247,10 +261,11 @@ fn append_read(
     let Some(entry) = entry_of(value) else {
         return Ok(false);
     };
-    match form {
-        ListForm::Columns => append_entry(alloc, text, &entry, widths)?,
-        ListForm::Long => append_entry_long(alloc, text, &entry)?,
-        ListForm::Json => append_entry_json(text, &entry)?,
+    if form.is_json() {
+        append_open_json(text, &entry)?;
+        text.extend_from_slice(b"}")?;
+    } else {
+        append_entry(alloc, text, &entry, widths)?;
     }
     Ok(true)
 }
@@ -269,36 +284,4 @@ pub fn append_object(
     let appended = append_read(alloc, text, &value, form, widths);
     drop(value);
     Ok(appended?)
-}
-
-/// The class of an element of an object list that has this name.
-fn class_of_element(
-    alloc: Global,
-    element: &[u8],
-    name: [u8; 6],
-) -> Result<Option<u16>, ValueFault> {
-    let Some(value) = element_of(alloc, element)? else {
-        return Ok(None);
-    };
-    let class = class_in(slice::from_ref(&value), name);
-    drop(value);
-    Ok(class)
-}
-
-/// The class of the first element of an object list that has this name; `None` if no element has it, or it is not a list.
-pub fn class_named(alloc: Global, list: &[u8], name: [u8; 6]) -> Result<Option<u16>, ValueFault> {
-    let (Front::Array(count), bytes) = front_of(list) else {
-        return Ok(None);
-    };
-    let mut rest = bytes;
-    for _ in 0..count {
-        let Some((element, behind)) = first_of(rest) else {
-            return Ok(None);
-        };
-        if let Some(class) = class_of_element(alloc, element, name)? {
-            return Ok(Some(class));
-        }
-        rest = behind;
-    }
-    Ok(None)
 }

@@ -1,11 +1,10 @@
 //! Values as JSON, each with the name of its type. What is printed of a long value goes out piece by piece.
 
-use crate::json_text::append_octets_of_text;
 use crate::other_values::{append_float, is_float, type_name};
 use crate::values::{PIECE, Teller};
 use dlms_buffer::{append_clock, append_value};
 use dlms_faults::Fault;
-use dlms_text::{ValueFault, append_pairs};
+use dlms_text::{ValueFault, append_pairs, append_text};
 use dlms_values::{Bits, Items, OctetsKind, UnsignedKind, Value, read};
 use std::alloc::{AllocError, Global};
 use std::io::Write;
@@ -106,7 +105,7 @@ impl<'a, W: Write> Teller<'a, '_, W> {
         self.text.extend_from_slice(label)?;
         for piece in octets.chunks(PIECE) {
             if is_text {
-                append_octets_of_text(&mut self.text, piece)?;
+                append_text(&mut self.text, piece)?;
             } else {
                 append_pairs(&mut self.text, piece)?;
             }
