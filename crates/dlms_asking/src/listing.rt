@@ -51,7 +51,7 @@ fn append_reason(text: &mut Vec<u8>, reason: &str, form: ListForm) -> Result<(),
     text.extend_from_slice(b")")
 }
 
-/// Appends the lines of a value: the first one behind its attribute, the others below it.
+/// Appends the lines of a value: the first on the line of its attribute, the others indented under it.
 fn append_lines(text: &mut Vec<u8>, lines: &[u8]) -> Result<(), AllocError> {
     let lines = lines.strip_suffix(b"\n".as_slice()).unwrap_or(lines);
     text.extend_from_slice(b"  ")?;

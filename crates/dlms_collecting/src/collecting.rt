@@ -50,7 +50,7 @@ impl<'a> Purpose<'a> {
     }
 }
 
-/// The meters of a collection, and what is wanted of them.
+/// The meters of a collection, and whether they are polled or asked for attributes.
 #[derive(Clone, Copy)]
 pub struct Collection<'a> {
     /// The text of the list.

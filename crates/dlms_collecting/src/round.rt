@@ -411,7 +411,8 @@ impl<
         }
     }
 
-    /// Keeps the meter's counter, and takes what came of a job that ended, or counts its failure. Returns whether it put its file.
+    /// Keeps the meter's counter, and handles the result of a job that ended: its rows or values, or its failure. Returns whether a
+    /// readings file was put.
     fn finish(
         &mut self,
         ended: EndedPoll<Order<'r, R>, MeterJob>,

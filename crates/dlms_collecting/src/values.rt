@@ -89,7 +89,7 @@ impl PrintedValues {
         Ok(())
     }
 
-    /// Appends what came of each attribute, in the order of the names.
+    /// Appends the value of each attribute, or why it was refused, in the order of the names.
     pub fn add_all<T: ValueText>(
         &mut self,
         texts: &T,

@@ -35,7 +35,7 @@ struct Printing {
     names: Vec<[u8; 6]>,
 }
 
-/// How many notifications came, how many were refused, and what was skipped.
+/// The numbers of notifications, of refused ones, and of damaged frames and octets between frames.
 #[derive(Clone, Copy)]
 struct Tally {
     received: u64,
@@ -68,7 +68,7 @@ struct Hearing<'a, 'k, 'o, H, W, E> {
     errors: &'o mut E,
 }
 
-/// A connection of a meter, and what came over it.
+/// A meter's connection, and the state of reading it.
 #[derive(Drop)]
 struct Caller {
     name: String,
@@ -117,7 +117,7 @@ fn refusal_words(refusal: Refusal) -> (&'static str, Option<[u8; 8]>) {
     }
 }
 
-/// The words for what was skipped.
+/// Why octets were skipped, in words.
 fn skip_words(skip: Skip) -> &'static str {
     match skip {
         Skip::Control(_) => "a frame without information",
@@ -157,7 +157,7 @@ impl<'a, H: Net + Files<File = File> + AllocGlobal, W: Write, E: Write> Hearing<
         let _said = writeln!(self.errors);
     }
 
-    /// Reports what was skipped. An error in writing does not matter.
+    /// Reports skipped octets. An error in writing is ignored.
     fn tell_skipped(&mut self, from: &str, listener: &Listener) {
         let noise = listener.noise();
         if noise > 0 {
