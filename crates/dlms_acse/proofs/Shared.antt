@@ -5,9 +5,9 @@ use Rattle.byteorder.specs.Endian.{big_number}
 use Rattle.dlms_acse.specs.declared.fault.AcseFault.{AcseFault}
 use Rattle.dlms_acse.specs.declared.fault.AcseFault.TheVariants.{Short, Length}
 use Rattle.dlms_acse.specs.Reading.{◌>>=◌, is_longer, told, taken_at, length_at, number_at, octets_at}
-use Rattle.dlms_data.specs.declared.fault.DataFault.{DataFault}
-use Rattle.dlms_data.specs.declared.fault.DataFault.TheVariants as fault
-use Rattle.dlms_data.specs.Reading as xdr
+use Rattle.dlms_axdr.specs.declared.fault.DataFault.{DataFault}
+use Rattle.dlms_axdr.specs.declared.fault.DataFault.TheVariants as fault
+use Rattle.dlms_axdr.specs.Reading as xdr
 
 -- the same, with the faults of this crate
 abbrev here : {Y : Type 0} → Result Y xdr.Fault → Result Y AcseFault

@@ -1,7 +1,7 @@
 -- The parts of a form.
 use Rattle.std.proofs.Common.{◌≡◌, ℕ, List, Result, Ok, Err, ap}
 use Rattle.dlms_data.specs.Value.{Value}
-use Rattle.dlms_data.specs.Reading.{Fault, behind}
+use Rattle.dlms_axdr.specs.Reading.{Fault, behind}
 use Rattle.dlms_apdu.specs.Reading.{value_from}
 
 -- a value precedes the bytes after it

@@ -1,7 +1,8 @@
 -- Choice is final: whatever bytes follow, it is reported again.
 use Rattle.std.proofs.Common.{◌≡◌, ℕ, ◌-◌, Bool, true, false, cond, ltb, eqb, ◌||◌, if◌then◌else◌, List, [], ◌∷◌, ◌++◌, length, take, drop, Option, Result, Ok, Err, refl, sym, ap, ◌∙◌, ◌⊎◌, inl, inr}
 use Rattle.dlms_data.specs.Value.{Value}
-use Rattle.dlms_data.specs.Reading.{Fault, short, no_type, no_length, too_deep, ◌>>=◌, data_at, taken_at as data_taken_at, number_at as data_number_at, length_at, octets_at}
+use Rattle.dlms_axdr.specs.Reading.{Fault, short, no_type, no_length, too_deep, ◌>>=◌, taken_at as data_taken_at, number_at as data_number_at, length_at, octets_at}
+use Rattle.dlms_data.specs.Reading.{data_at}
 use Rattle.dlms_apdu.specs.declared.fault.Refusal.{Refusal}
 use Rattle.dlms_apdu.specs.declared.fault.Refusal.TheVariants.{Short, Choice, Trailing, Data}
 use Rattle.dlms_apdu.specs.Forms.{action_result}

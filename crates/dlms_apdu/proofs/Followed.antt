@@ -2,7 +2,8 @@
 use Rattle.std.proofs.Common.{◌≡◌, ℕ, Bool, true, false, cond, ltb, eqb, if◌then◌else◌, List, [], ◌∷◌, ◌++◌, length, take, drop, Result, Ok, Err, refl, ap, subst, ◌∙◌, ◌⊎◌, inl, inr}
 use Rattle.std.proofs.lemmas.Bool.{eqb-true}
 use Rattle.dlms_data.specs.Value.{Value}
-use Rattle.dlms_data.specs.Reading.{Fault, short, no_type, no_length, too_deep, data_at, octets_at}
+use Rattle.dlms_axdr.specs.Reading.{Fault, short, no_type, no_length, too_deep, octets_at}
+use Rattle.dlms_data.specs.Reading.{data_at}
 use Rattle.dlms_apdu.specs.declared.fault.Refusal.{Refusal}
 use Rattle.dlms_apdu.specs.declared.fault.Refusal.TheVariants.{Short, Trailing}
 use Rattle.dlms_apdu.specs.Forms.{get_normal, get_next, set_normal, set_first, set_block, action_normal, action_first, action_block, get_data, get_result, get_block, get_block_result, set_result, set_block_taken, set_last, action_result, action_block_taken, exception}

@@ -5,7 +5,8 @@ use Rattle.std.proofs.lemmas.List.{take_at, drop_at, take-append-drop, length-ap
 use Rattle.byteorder.specs.Endian.{big_number}
 use Rattle.dlms_data.specs.declared.descriptor.Descriptor.{Descriptor}
 use Rattle.dlms_data.specs.Value.{Value}
-use Rattle.dlms_data.specs.Reading.{Fault, data_at, octets_at}
+use Rattle.dlms_axdr.specs.Reading.{Fault, octets_at}
+use Rattle.dlms_data.specs.Reading.{data_at}
 use Rattle.dlms_data.proofs.Takes.{octets_takes, octets_again, spelled}
 use Rattle.dlms_data.proofs.WholeLaws.{reads_what_is_spelled}
 use Rattle.dlms_apdu.specs.declared.fault.Refusal.{Refusal}

@@ -4,7 +4,8 @@ use Rattle.byteorder.specs.Endian.{big_number}
 use Rattle.dlms_data.specs.declared.descriptor.Descriptor.{Descriptor}
 use Rattle.dlms_data.specs.Value.{Value}
 use Rattle.dlms_data.specs.Memory.{NeedsMemory}
-use Rattle.dlms_data.specs.Reading.{Fault, short, data_at, octets_at}
+use Rattle.dlms_axdr.specs.Reading.{Fault, short, octets_at}
+use Rattle.dlms_data.specs.Reading.{data_at}
 use Rattle.dlms_apdu.specs.declared.fault.ApduFault.{ApduFault}
 use Rattle.dlms_apdu.specs.declared.fault.ApduFault.TheVariants as fault
 use Rattle.dlms_apdu.specs.declared.fault.Refusal.{Refusal}

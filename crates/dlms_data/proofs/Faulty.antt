@@ -8,7 +8,8 @@ use Rattle.dlms_data.specs.declared.tag.Plain.TheVariants as plain
 use Rattle.dlms_data.specs.Value.{Value, Values, none, cons, count, values_depth}
 use Rattle.dlms_data.specs.Bits.{bytes_for, bits_of}
 use Rattle.dlms_data.specs.Spelling.{SpellAll}
-use Rattle.dlms_data.specs.Reading.{◌>>=◌, Fault, short, no_type, no_length, too_deep, taken_at, length_at, number_at, octets_at, bits_at, plain_at, content_at, tagged_at, value_at, type_of, values_at, nested, data_at}
+use Rattle.dlms_axdr.specs.Reading.{◌>>=◌, Fault, short, no_type, no_length, too_deep, taken_at, length_at, number_at, octets_at}
+use Rattle.dlms_data.specs.Reading.{bits_at, plain_at, content_at, tagged_at, value_at, type_of, values_at, nested, data_at}
 use Rattle.dlms_data.specs.Faults.{LengthFault, counted, content_of, ContentFault, TypeFault, ValueFault, Inside, TellsFaults}
 use Rattle.dlms_data.proofs.Takes.{length_takes, length_again, data_takes, data_again}
 

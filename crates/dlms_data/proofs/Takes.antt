@@ -2,8 +2,8 @@
 use Rattle.std.proofs.Common.{◌≡◌, ℕ, zero, suc, ◌-◌, ◌≤◌, Bool, true, false, cond, ltb, eqb, ◌||◌, List, [], ◌∷◌, ◌++◌, length, take, drop, Option, Some, None, Result, Ok, Err, refl, sym, ap, subst, ◌∙◌, append_assoc, arith, ◌⊎◌, inl, inr}
 use Rattle.std.proofs.lemmas.Bool.{ltb-false, le-ltb, ltb-true, lt-ltb, eqb-true, eq-eqb}
 use Rattle.std.proofs.lemmas.List.{take_at, drop_at, take-append-drop, length-append, length-take, length-drop, append-nil, take_all}
-use Rattle.dlms_data.specs.declared.fault.DataFault.{DataFault}
-use Rattle.dlms_data.specs.declared.fault.DataFault.TheVariants.{Short, Tag as NoTag, Length, Depth, Memory}
+use Rattle.dlms_axdr.specs.declared.fault.DataFault.{DataFault}
+use Rattle.dlms_axdr.specs.declared.fault.DataFault.TheVariants.{Short, Tag as NoTag, Length, Depth, Memory}
 use Rattle.dlms_data.specs.declared.tag.Tag.{Tag}
 use Rattle.dlms_data.specs.declared.tag.Tag.TheVariants as tag
 use Rattle.dlms_data.specs.declared.tag.Plain.{Plain}
@@ -13,7 +13,8 @@ use Rattle.byteorder.specs.Endian.{big_number}
 use Rattle.dlms_data.specs.Value.{Value, Values, null, array, structure, boolean, bit_string, double_long, double_long_unsigned, octet_string, visible_string, utf8_string, bcd, integer, long, unsigned, long_unsigned, long64, long64_unsigned, enumerated, date_time, date, time, none, cons, count, depth, values_depth}
 use Rattle.dlms_data.specs.Bits.{bits_of, bytes_for, HoldsBits}
 use Rattle.dlms_data.specs.Memory.{NeedsFirst}
-use Rattle.dlms_data.specs.Reading.{◌>>=◌, Fault, short, no_type, no_length, too_deep, IsFault, Fails, Wants, behind, taken_at, length_at, number_at, octets_at, bits_at, plain_at, content_at, tagged_at, value_at, type_of, values_at, nested, data_at}
+use Rattle.dlms_axdr.specs.Reading.{◌>>=◌, Fault, short, no_type, no_length, too_deep, IsFault, Fails, Wants, behind, taken_at, length_at, number_at, octets_at}
+use Rattle.dlms_data.specs.Reading.{bits_at, plain_at, content_at, tagged_at, value_at, type_of, values_at, nested, data_at}
 use Rattle.dlms_data.specs.Spelling.{IsLength, Counted, Spells, SpellAll, IsSpelling}
 use Rattle.dlms_data.proofs.Loop.{Reader}
 use Rattle.dlms_data.proofs.Bitwise.{length-view, holds}

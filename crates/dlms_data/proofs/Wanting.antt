@@ -1,12 +1,13 @@
 -- What memory is wanting for.
 use Rattle.std.proofs.Common.{◌≡◌, ℕ, zero, suc, ◌+◌, ◌/◌, ◌≤◌, ◌<◌, List, [], ◌∷◌, ◌++◌, length, Result, Ok, Err, IfOk, refl, sym, ap, ◌∙◌, subst, arith}
 use Rattle.std.proofs.lemmas.List.{length-append}
-use Rattle.dlms_data.specs.declared.fault.DataFault.{DataFault}
-use Rattle.dlms_data.specs.declared.fault.DataFault.TheVariants.{Short, Tag as NoTag, Length, Depth, Memory}
+use Rattle.dlms_axdr.specs.declared.fault.DataFault.{DataFault}
+use Rattle.dlms_axdr.specs.declared.fault.DataFault.TheVariants.{Short, Tag as NoTag, Length, Depth, Memory}
 use Rattle.dlms_data.specs.Value.{Value, Values, null, none, cons, count}
 use Rattle.dlms_data.specs.Spelling.{Spells}
 use Rattle.dlms_data.specs.Memory.{AreSome, HasSome}
-use Rattle.dlms_data.specs.Reading.{◌>>=◌, Fault, IsFault, Fails, behind, values_at, data_at, length_at, taken_at, bits_at}
+use Rattle.dlms_axdr.specs.Reading.{◌>>=◌, Fault, IsFault, Fails, behind, length_at, taken_at}
+use Rattle.dlms_data.specs.Reading.{values_at, data_at, bits_at}
 use Rattle.dlms_data.proofs.Loop.{Reader}
 use Rattle.dlms_data.proofs.Takes.{data_takes, ok_is}
 use Rattle.dlms_data.proofs.Bitwise.{length-view}

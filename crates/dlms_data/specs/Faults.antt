@@ -7,7 +7,8 @@ use Rattle.dlms_data.specs.declared.tag.Plain.TheVariants as plain
 use Rattle.dlms_data.specs.Value.{Values, count, values_depth}
 use Rattle.dlms_data.specs.Bits.{bytes_for}
 use Rattle.dlms_data.specs.Spelling.{IsLength, SpellAll}
-use Rattle.dlms_data.specs.Reading.{Fault, short, no_type, no_length, too_deep, type_of, data_at}
+use Rattle.dlms_axdr.specs.Reading.{Fault, short, no_type, no_length, too_deep}
+use Rattle.dlms_data.specs.Reading.{type_of, data_at}
 
 -- what is wrong at a length: it is cut, or no length begins so
 abbrev pub LengthFault : Fault → List ℕ → Type 0

@@ -2,15 +2,16 @@
 
 ghost use Rattle.std.specs.Prelude.{◌≡◌};
 ghost use Rattle.dlms_data.specs.Memory.{NeedsFirst};
-ghost use Rattle.dlms_data.specs.Reading.{Gives, Tells, behind, bits_at, plain_at};
+ghost use Rattle.dlms_axdr.specs.Reading.{Gives, Tells, behind};
+ghost use Rattle.dlms_data.specs.Reading.{bits_at, plain_at};
 ghost use Rattle.dlms_data.specs.View.{value_of};
 
 use crate::data::Data;
-use crate::fault::DataFault;
-use crate::parts::{
-    bits, counted, eight, five, four, four_octets, length_of, octets, one, taken, twelve, two,
-};
+use crate::parts::{bits, octets};
 use crate::tag::Plain;
+use dlms_axdr::{
+    DataFault, counted, eight, five, four, four_octets, length_of, one, taken, twelve, two,
+};
 use std::alloc::Allocator;
 
 /// The content after the tag of a type that contains no other values.
@@ -110,7 +111,7 @@ fn after_bits(bytes: &[u8]) -> Result<&[u8], DataFault>
 }
 
 /// What follows the content after the tag of a type that contains no other values.
-#[tactic(auto, using(crate::proofs::Scan::behind_map), unfolding(crate::specs::Reading::plain_at, crate::specs::Reading::number_at))]
+#[tactic(auto, using(crate::proofs::Scan::behind_map), unfolding(crate::specs::Reading::plain_at, dlms_axdr::specs::Reading::number_at))]
 pub fn after_plain(tag: Plain, bytes: &[u8]) -> Result<&[u8], DataFault>
     ensures { Tells (λ x. x.now) result (behind (plain_at tag bytes.now)) }
 {

@@ -5,7 +5,8 @@ use Rattle.std.proofs.lemmas.List.{drop-drop}
 use Rattle.dlms_apdu.specs.Reading.{request_at, response_at}
 use Rattle.dlms_apdu.specs.declared.fault.ApduFault.{ApduFault}
 use Rattle.dlms_apdu.specs.declared.fault.ApduFault.TheVariants.{Short, Choice, Trailing, Data, Memory}
-use Rattle.dlms_data.specs.Reading.{behind, data_at}
+use Rattle.dlms_axdr.specs.Reading.{behind}
+use Rattle.dlms_data.specs.Reading.{data_at}
 use Rattle.dlms_data.specs.Spelling.{IsSpelling, Spells, Tagged}
 use Rattle.dlms_data.specs.Value.{Value, null, array, structure, boolean, bit_string, double_long, double_long_unsigned, octet_string, visible_string, utf8_string, bcd, integer, long, unsigned, long_unsigned, long64, long64_unsigned, enumerated, date_time, date, time}
 use Rattle.dlms_dissect.specs.declared.parties.Side.{Side}

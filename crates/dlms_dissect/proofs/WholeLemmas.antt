@@ -2,11 +2,11 @@
 use Rattle.std.proofs.Common.{◌≡◌, ℕ, List, [], ◌++◌, length, Result, Ok, Err, refl, sym, ap}
 use Rattle.std.proofs.lemmas.List.{append-nil}
 use Rattle.dlms_data.specs.Memory.{NeedsFirst}
-use Rattle.dlms_data.specs.Reading.{Fault, Wants}
+use Rattle.dlms_axdr.specs.Reading.{Fault, Wants}
 use Rattle.dlms_data.specs.Spelling.{IsSpelling}
 use Rattle.dlms_data.specs.Value.{Value}
-use Rattle.dlms_data.specs.declared.fault.DataFault.{DataFault}
-use Rattle.dlms_data.specs.declared.fault.DataFault.TheVariants.{Short, Tag, Length, Depth, Memory}
+use Rattle.dlms_axdr.specs.declared.fault.DataFault.{DataFault}
+use Rattle.dlms_axdr.specs.declared.fault.DataFault.TheVariants.{Short, Tag, Length, Depth, Memory}
 use Rattle.dlms_dissect.specs.declared.places.Fault.{Fault as Place}
 use Rattle.dlms_dissect.specs.declared.secrecy.Secrecy.{Secrecy}
 use Rattle.dlms_dissect.specs.declared.secrecy.Secrecy.TheVariants.{Secret, Unknown, Open}

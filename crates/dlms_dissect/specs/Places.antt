@@ -7,10 +7,11 @@ use Rattle.dlms_apdu.specs.Reading.{request_at, response_at}
 use Rattle.dlms_apdu.specs.declared.fault.ApduFault.{ApduFault}
 use Rattle.dlms_apdu.specs.declared.fault.ApduFault.TheVariants as apdu
 use Rattle.dlms_apdu.specs.declared.fault.Refusal.{Refusal}
-use Rattle.dlms_data.specs.Fault.{number_of}
-use Rattle.dlms_data.specs.Reading.{Fault as DataRefusal, behind, short, no_type, no_length, too_deep, data_at}
-use Rattle.dlms_data.specs.declared.fault.DataFault.{DataFault}
-use Rattle.dlms_data.specs.declared.fault.DataFault.TheVariants.{Short, Tag, Length, Depth, Memory}
+use Rattle.dlms_axdr.specs.Fault.{number_of}
+use Rattle.dlms_axdr.specs.Reading.{Fault as DataRefusal, behind, short, no_type, no_length, too_deep}
+use Rattle.dlms_data.specs.Reading.{data_at}
+use Rattle.dlms_axdr.specs.declared.fault.DataFault.{DataFault}
+use Rattle.dlms_axdr.specs.declared.fault.DataFault.TheVariants.{Short, Tag, Length, Depth, Memory}
 use Rattle.dlms_dissect.specs.declared.parties.Side.{Side}
 use Rattle.dlms_dissect.specs.declared.parties.Side.TheVariants.{Client, Meter}
 use Rattle.dlms_dissect.specs.declared.places.Fault.{Fault}

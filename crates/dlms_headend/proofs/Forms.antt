@@ -9,7 +9,7 @@ use Rattle.dlms_data.specs.Spelling.{IsLength, Counted, Spells, SpellAll, IsSpel
 use Rattle.dlms_headend.specs.Form.{begins, body_of, StandIn, IsFirst, IsFour}
 use Rattle.dlms_headend.specs.Rows.{on_some, four_in, octets_in, register_in, fields_in, IsRow, AreRows, IsProfile, IsEncoded}
 use Rattle.dlms_headend.specs.declared.row.Row.{Row}
-use Rattle.dlms_data.specs.declared.fault.DataFault.{DataFault}
+use Rattle.dlms_axdr.specs.declared.fault.DataFault.{DataFault}
 
 -- ---- tags
 

@@ -6,8 +6,8 @@ use Rattle.std.specs.Prelude.{IsErrAnd}
 use Rattle.dlms_data.proofs.WholeLaws.{reads_one_value}
 use Rattle.dlms_data.specs.Memory.{NeedsMemory, NeedsFirst}
 use Rattle.dlms_data.specs.Value.{Value, Values, array, structure, none, cons, count}
-use Rattle.dlms_data.specs.declared.fault.DataFault.{DataFault}
-use Rattle.dlms_data.specs.declared.fault.DataFault.TheVariants as data_fault
+use Rattle.dlms_axdr.specs.declared.fault.DataFault.{DataFault}
+use Rattle.dlms_axdr.specs.declared.fault.DataFault.TheVariants as data_fault
 use Rattle.dlms_data.specs.View.{value_of, values_of}
 use Rattle.dlms_data.specs.DateTime.{NamesSecond}
 use Rattle.dlms_headend.specs.declared.row.Row.{Row}
@@ -15,7 +15,7 @@ use Rattle.dlms_headend.specs.Rows.{four_in, fields_in, IsRow, AreRows, IsProfil
 use Rattle.dlms_headend.specs.declared.poll_fault.PollFault.{PollFault}
 use Rattle.dlms_headend.specs.declared.poll_fault.PollFault.TheVariants.{Refused, Result as BadResult, Line, Protocol, Columns, Memory}
 use Rattle.dlms_data.specs.Spelling.{IsSpelling}
-use Rattle.dlms_data.specs.Reading.{Fault, Wants}
+use Rattle.dlms_axdr.specs.Reading.{Fault, Wants}
 
 pub four_in_others : {A : Type 0} (ds : List (Data A)) → (length ds ≡ 4 → ⊥) → four_in (structure (values_of ds)) ≡ None
 four_in_others [] n = refl

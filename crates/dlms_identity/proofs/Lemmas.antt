@@ -11,7 +11,7 @@ use Rattle.dlms_client.specs.Plan.{PlanValue}
 use Rattle.dlms_association.specs.declared.answer.Answer.{Answer}
 use Rattle.dlms_association.specs.declared.requests.TheConstants.{INVOKE}
 use Rattle.dlms_association.specs.declared.stage.Asked.TheVariants.{Get}
-use Rattle.dlms_data.specs.Reading.{Fault}
+use Rattle.dlms_axdr.specs.Reading.{Fault}
 use Rattle.dlms_data.specs.Value.{Value, null}
 use Rattle.dlms_data.specs.Spelling.{IsSpelling}
 use Rattle.dlms_data.specs.declared.descriptor.Descriptor.{Descriptor}

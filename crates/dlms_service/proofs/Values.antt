@@ -1,7 +1,7 @@
 -- The value that bytes are.
 use Rattle.std.proofs.Common.{◌≡◌, sym, ap, ℕ, List, [], ◌++◌, length, Option, Some, None, option_map, option_copied, Bor, Result, Ok, Err}
 use Rattle.std.proofs.lemmas.List.{append-nil}
-use Rattle.dlms_data.specs.Reading.{Fault}
+use Rattle.dlms_axdr.specs.Reading.{Fault}
 use Rattle.dlms_data.specs.Value.{Value, null}
 use Rattle.dlms_data.specs.View.{value_of}
 use Rattle.dlms_data.specs.declared.data.Data.{Data}

@@ -1,8 +1,8 @@
 -- Encodings (A-XDR, IEC 61334-6), read value by value.
 use Rattle.std.specs.Prelude.{◌≡◌, ◌⊎◌, ℕ, List, ◌∷◌, Result, Ok, Err, IsErr, IsOkAnd}
-use Rattle.dlms_data.specs.Reading.{Fault, length_at}
-use Rattle.dlms_data.specs.declared.fault.DataFault.{DataFault}
-use Rattle.dlms_data.specs.declared.fault.DataFault.TheVariants as unread
+use Rattle.dlms_axdr.specs.Reading.{Fault, length_at}
+use Rattle.dlms_axdr.specs.declared.fault.DataFault.{DataFault}
+use Rattle.dlms_axdr.specs.declared.fault.DataFault.TheVariants as unread
 use Rattle.dlms_text.specs.declared.fault.ValueFault.{ValueFault}
 use Rattle.dlms_text.specs.declared.fault.ValueFault.TheVariants.{Form, Memory}
 use Rattle.dlms_text.specs.declared.walk.Front.{Front}

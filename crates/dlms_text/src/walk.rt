@@ -1,16 +1,15 @@
 //! Encodings (A-XDR), read value by value, without building the tree of their values.
 
-ghost use Rattle.std.specs.Prelude.{◌≡◌, ◌<◌, ◌++◌, IfNone, IfSome, IsErr, MatchOption, Ok, length};
-ghost use Rattle.byteorder.specs.Endian.{big_number};
+ghost use Rattle.std.specs.Prelude.{◌≡◌, ◌++◌, IfNone, IfSome, IsErr};
 ghost use Rattle.dlms_text.specs.Walking.{IsFront, Reads};
 ghost use Rattle.dlms_data.specs.Memory.{NeedsFirst};
-ghost use Rattle.dlms_data.specs.Reading.{data_at, length_at};
+ghost use Rattle.dlms_data.specs.Reading.{data_at};
 ghost use Rattle.dlms_data.specs.Spelling.{IsSpelling};
 ghost use Rattle.dlms_data.specs.Value.{Value};
 ghost use Rattle.dlms_data.specs.View.{value_of};
 
 use crate::fault::{ValueFault, of_data};
-use byteorder::{BigEndian, ByteOrder};
+use dlms_axdr::length_of;
 use dlms_data::{Data, read, span};
 use std::alloc::Allocator;
 
@@ -25,55 +24,18 @@ pub enum Front {
     Plain,
 }
 
-/// The number that one to four octets write, the highest octet first.
-fn number_of(bytes: &[u8]) -> u32
-    requires some { 0 < length bytes.now }
-    requires few { length bytes.now < 5 }
-    ensures { result ≡ big_number (length bytes.now) bytes.now }
-{
-    match bytes.len() {
-        1 => u32::from(bytes[0]),
-        2 => u32::from(BigEndian::read_u16(bytes)),
-        3 => BigEndian::read_u24(bytes),
-        _ => BigEndian::read_u32(bytes),
-    }
-}
-
-/// The length at the front, and what follows it: an octet below 128, or an octet of 81 to 84 and one to four octets (A-XDR, IEC
-/// 61334-6).
-#[tactic(auto, unfolding(dlms_data::specs::Reading::length_at, dlms_data::specs::Reading::number_at, dlms_data::specs::Reading::taken_at))]
-fn length_of(bytes: &[u8]) -> Option<(u32, &[u8])>
-    ensures { MatchOption result (IsErr (length_at bytes.now))
-        (λ x. length_at bytes.now ≡ Ok (x.0, x.1.now)) }
-{
-    let (first, rest) = bytes.split_first()?;
-    let first = *first;
-    if first < 128 {
-        return Some((u32::from(first), rest));
-    }
-    if first < 129 || 132 < first {
-        return None;
-    }
-    let octets = usize::from(first) - 128;
-    if rest.len() < octets {
-        return None;
-    }
-    let (front, rest) = rest.split_at(octets);
-    Some((number_of(front), rest))
-}
-
 /// The head at the front of an encoding, and the octets after it; without a head, the whole encoding.
 pub fn front_of(bytes: &[u8]) -> (Front, &[u8])
     ensures { IsFront bytes.now result.0 result.1.now }
 {
     match bytes {
         [1, rest @ ..] => match length_of(rest) {
-            Some((count, rest)) => (Front::Array(count), rest),
-            None => (Front::Plain, bytes),
+            Ok((count, rest)) => (Front::Array(count), rest),
+            Err(_) => (Front::Plain, bytes),
         },
         [2, rest @ ..] => match length_of(rest) {
-            Some((count, rest)) => (Front::Structure(count), rest),
-            None => (Front::Plain, bytes),
+            Ok((count, rest)) => (Front::Structure(count), rest),
+            Err(_) => (Front::Plain, bytes),
         },
         _ => (Front::Plain, bytes),
     }
