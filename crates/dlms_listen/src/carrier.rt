@@ -1,5 +1,8 @@
 //! What carries the APDUs of a line.
 
+ghost use Rattle.std.specs.Prelude.{◌≡◌};
+ghost use Rattle.dlms_listen.specs.Line.{carrier_of};
+
 /// The first octet of a message of the wrapper, whose version is 1 in two octets (IEC 62056-47).
 const VERSION: u8 = 0;
 
@@ -13,7 +16,9 @@ pub enum Carrier {
 }
 
 /// The carrier of a line that begins with this octet: the wrapper, or HDLC, perhaps within a frame.
-pub fn carrier_of(first: u8) -> Carrier {
+pub fn carrier_of(first: u8) -> Carrier
+    ensures { result ≡ carrier_of first }
+{
     if first == VERSION {
         Carrier::Wrapper
     } else {

@@ -6,13 +6,14 @@ mod carrier;
 mod counters;
 mod entries;
 mod fault;
+pub mod laws;
 mod listener;
+mod noise;
 mod notification;
 mod receiver;
 mod segments;
 
 pub use carrier::{Carrier, carrier_of};
-pub use counters::{Sender, Senders};
 pub use entries::{Entry, entries_of};
 pub use fault::{Refusal, Skip};
 pub use listener::Listener;

@@ -1,25 +1,20 @@
 //! The APDUs of a stream that comes in pieces.
 
-ghost use Rattle.std.specs.Prelude.{◌≤◌, length};
+ghost use Rattle.std.specs.Prelude.{◌≡◌};
+ghost use Rattle.dlms_listen.specs.Joined.{Segmented, block_in, kept_after, outcome_of, segment_of};
+ghost use Rattle.dlms_listen.specs.Line.{found_after, skip_after, with_segment};
 
 use crate::blocks::Blocks;
 use crate::carrier::{Carrier, carrier_of};
 use crate::fault::Skip;
+use crate::noise::Noise;
 use crate::segments::Segments;
-use dlms_frame::Deframer;
+use dlms_frame::{Deframer, Frame};
 use dlms_wrapper::{MOST_APDU, MessageReader};
-
-/// The flag of a frame.
-const FLAG: u8 = 0x7e;
-
-/// The number of flags around a frame.
-const FLAGS: u32 = 2;
-
-/// So many octets without a frame are reported before a frame comes.
-const MOST_NOISE: u32 = 65_536;
+use std::marker::Model;
 
 /// Where the APDU is that the last call completed.
-#[derive(Clone, Copy, PartialEq, Eq)]
+#[derive(Clone, Copy)]
 enum Found {
     Nothing,
     Frame,
@@ -38,18 +33,74 @@ pub struct Listener {
     blocks: Blocks,
     found: Found,
     skipped: Option<Skip>,
-    /// The octets since the last frame, without repeated flags.
-    since: u32,
-    /// Whether the last octet was a flag.
-    is_flag: bool,
-    noise: u32,
-    /// Whether the stream has no further messages.
-    is_over: bool,
+    noise: Noise,
+}
+
+impl Model for Listener {
+    ghost use Rattle.dlms_listen.specs.Line.{Line};
+
+    ghost Value = { Line };
+
+    ghost view = { λ l. record {
+      carrier = l.carrier;
+      frames = l.deframer;
+      messages = l.reader;
+      segments = l.segments;
+      blocks = l.blocks;
+      found = l.found;
+      skipped = l.skipped;
+    } };
+}
+
+/// Takes an APDU that is complete in a frame or in a message. Returns where it is, which is in the blocks if it is the last one of
+/// them, and what was left out: with it or `before` it.
+fn join_apdu(
+    blocks: &mut Blocks,
+    apdu: &[u8],
+    found: Found,
+    before: Option<Skip>,
+) -> (Found, Option<Skip>)
+    ensures blocks { blocks.new ≡ kept_after blocks.old (block_in apdu.now) }
+    ensures found { result.0 ≡ found_after found (outcome_of blocks.old (block_in apdu.now)) }
+    ensures skipped { result.1 ≡ skip_after before (outcome_of blocks.old (block_in apdu.now)) }
+{
+    match blocks.offer(apdu) {
+        None => (found, before),
+        Some((true, skip)) => (Found::Blocks, skip.or(before)),
+        Some((false, skip)) => (Found::Nothing, skip.or(before)),
+    }
+}
+
+/// Takes a frame. Returns where an APDU is complete, and what was left out.
+fn join_frame(
+    segments: &mut Segments,
+    blocks: &mut Blocks,
+    frame: &Frame<'_>,
+) -> (Found, Option<Skip>)
+    ensures { record { segments = segments.new; blocks = blocks.new; found = result.0; skipped = result.1 }
+        ≡ with_segment blocks.old (segment_of segments.old frame.now) }
+{
+    let (is_whole, skip) = segments.take(frame);
+    if is_whole {
+        join_apdu(blocks, segments.apdu(), Found::Frame, skip)
+    } else {
+        (Found::Nothing, skip)
+    }
 }
 
 impl Listener {
+    ghost use Rattle.std.specs.Prelude.{◌≡◌, ◌<◌, ◌≤◌, None, [], length, option_map, take};
+    ghost use Rattle.dlms_frame.specs.Stream.{Fits};
+    ghost use Rattle.dlms_listen.specs.Line.{Takes, TakesFrames, TakesMessages, apdu_in};
+
     /// At the beginning of a stream of this carrier, which the first octet tells if none is given.
-    pub fn new(carrier: Option<Carrier>) -> Self {
+    pub fn new(carrier: Option<Carrier>) -> Self
+        ensures carrier { result.carrier ≡ carrier }
+        ensures frames { Fits result.frames.bytes [] 0 }
+        ensures messages { result.messages ≡ record { limit = 1024; bytes = []; message = None } }
+        ensures segments { result.segments ≡ record { octets = []; ends = None } }
+        ensures blocks { result.blocks ≡ record { octets = []; last = 0 } }
+    {
         Listener {
             carrier,
             deframer: Deframer::new(),
@@ -58,95 +109,53 @@ impl Listener {
             blocks: Blocks::new(),
             found: Found::Nothing,
             skipped: None,
-            since: 0,
-            is_flag: false,
-            noise: 0,
-            is_over: false,
-        }
-    }
-
-    /// Counts octets; a flag that follows another only fills the time between frames.
-    fn count(&mut self, octets: &[u8]) {
-        for octet in octets {
-            let is_flag = *octet == FLAG;
-            if !(is_flag && self.is_flag) {
-                self.since = self.since.saturating_add(1);
-            }
-            self.is_flag = is_flag;
-        }
-    }
-
-    /// Reports the octets since the last frame besides this many.
-    fn report_noise(&mut self, frame: u32) {
-        self.noise = self.since.saturating_sub(frame);
-        self.since = 0;
-    }
-
-    /// Takes an APDU that is complete in a frame or in a message: one that is a block only once it is the last one.
-    fn complete(&mut self, found: Found) {
-        let joined = match found {
-            Found::Frame => self.blocks.offer(self.segments.apdu()),
-            Found::Message => match self.reader.message() {
-                Some(message) => self.blocks.offer(message.apdu),
-                None => None,
-            },
-            _ => None,
-        };
-        match joined {
-            None => self.found = found,
-            Some((is_whole, skip)) => {
-                if skip.is_some() {
-                    self.skipped = skip;
-                }
-                if is_whole {
-                    self.found = Found::Blocks;
-                }
-            }
+            noise: Noise::new(),
         }
     }
 
     /// Takes octets of HDLC frames, at most to the end of the next one.
     fn feed_frames(&mut self, octets: &[u8]) -> usize
-        ensures { result ≤ length octets.now }
+        ensures len { result ≤ length octets.now }
+        ensures some { 0 < length octets.now → 0 < result }
+        ensures takes { TakesFrames self.old (take result octets.now) self.new }
     {
+        self.carrier = Some(Carrier::Hdlc);
+        self.found = Found::Nothing;
+        self.skipped = None;
         let count = self.deframer.feed(octets);
-        self.count(&octets[..count]);
-        let (len, is_whole, skip) = match self.deframer.frame() {
+        match self.deframer.frame() {
             Some(frame) => {
-                let (is_whole, skip) = self.segments.take(&frame);
-                (frame.len() as u32, is_whole, skip)
+                self.noise.until(&octets[..count], frame.len() as u32);
+                let (found, skipped) = join_frame(&mut self.segments, &mut self.blocks, &frame);
+                self.found = found;
+                self.skipped = skipped;
             }
-            None => {
-                if self.since > MOST_NOISE {
-                    self.report_noise(0);
-                }
-                return count;
-            }
-        };
-        self.report_noise(len.saturating_add(FLAGS));
-        self.skipped = skip;
-        if is_whole {
-            self.complete(Found::Frame);
+            None => self.noise.more(&octets[..count]),
         }
         count
     }
 
     /// Takes octets of messages, at most to the end of the next one; all, if there are no further messages.
     fn feed_messages(&mut self, octets: &[u8]) -> usize
-        ensures { result ≤ length octets.now }
+        ensures len { result ≤ length octets.now }
+        ensures some { 0 < length octets.now → 0 < result }
+        ensures takes { TakesMessages self.old (take result octets.now) self.new }
     {
-        if self.is_over {
-            return octets.len();
-        }
+        self.carrier = Some(Carrier::Wrapper);
+        self.found = Found::Nothing;
+        self.skipped = None;
         let count = self.reader.feed(octets);
-        if self.reader.message().is_some() {
-            self.complete(Found::Message);
+        if let Some(message) = self.reader.message() {
+            let (found, skipped) = join_apdu(&mut self.blocks, message.apdu, Found::Message, None);
+            self.found = found;
+            self.skipped = skipped;
             return count;
         }
         match self.reader.fault() {
             Some(fault) => {
-                self.skipped = Some(Skip::Header(fault));
-                self.is_over = true;
+                if count > 0 {
+                    self.skipped = Some(Skip::Header(fault));
+                }
                 octets.len()
             }
             None => count,
@@ -156,16 +165,19 @@ impl Listener {
     /// Takes octets, at most to the end of the next frame or message, and returns how many it took; pass the others to the next call.
     /// It drops the APDU of the call before.
     pub fn feed(&mut self, octets: &[u8]) -> usize
-        ensures { result ≤ length octets.now }
+        ensures len { result ≤ length octets.now }
+        ensures some { 0 < length octets.now → 0 < result }
+        ensures takes { Takes self.old (take result octets.now) self.new }
     {
-        self.found = Found::Nothing;
-        self.skipped = None;
-        self.noise = 0;
-        let Some(first) = octets.first() else {
-            return 0;
+        let carrier = match (self.carrier, octets) {
+            (Some(carrier), _) => carrier,
+            (None, [first, ..]) => carrier_of(*first),
+            (None, []) => {
+                self.found = Found::Nothing;
+                self.skipped = None;
+                return 0;
+            }
         };
-        let carrier = self.carrier.unwrap_or(carrier_of(*first));
-        self.carrier = Some(carrier);
         match carrier {
             Carrier::Hdlc => self.feed_frames(octets),
             Carrier::Wrapper => self.feed_messages(octets),
@@ -175,7 +187,7 @@ impl Listener {
     /// The stream is at its end: reports what is left of it by `noise` and `skipped`.
     pub fn close(&mut self) {
         self.found = Found::Nothing;
-        self.report_noise(0);
+        self.noise.end();
         let is_torn = self.segments.clear();
         let is_torn_block = self.blocks.clear();
         self.skipped = if is_torn {
@@ -189,16 +201,20 @@ impl Listener {
 
     /// How many octets were in no frame, before the frame that the last call completed.
     pub fn noise(&self) -> u32 {
-        self.noise
+        self.noise.reported()
     }
 
     /// What the last call left out.
-    pub fn skipped(&self) -> Option<Skip> {
+    pub fn skipped(&self) -> Option<Skip>
+        ensures { result ≡ self.now.skipped }
+    {
         self.skipped
     }
 
     /// The APDU that the last call completed, if it completed one.
-    pub fn apdu(&self) -> Option<&[u8]> {
+    pub fn apdu(&self) -> Option<&[u8]>
+        ensures { option_map (λ apdu. apdu.now) result ≡ apdu_in self.now }
+    {
         match self.found {
             Found::Nothing => None,
             Found::Frame => Some(self.segments.apdu()),

@@ -3,7 +3,8 @@
 ghost use Rattle.std.specs.Prelude.{◌≡◌, ◌∷◌, Some, option_map, IfOk, IfErr};
 ghost use Rattle.dlms_values.specs.Spelling.{IsSpelling};
 ghost use Rattle.dlms_values.specs.Value.{Value};
-ghost use Rattle.dlms_listen.specs.Notification.{IsNotification, Said, attributed, data_in, event_in, fields_in, said, stamped, tagged, timed, twelve};
+ghost use Rattle.dlms_listen.specs.Receiving.{IsNone, refusal_of};
+ghost use Rattle.dlms_listen.specs.Notification.{IsNotification, attributed, data_in, event_in, fields_in, said, stamped, tagged, timed, twelve};
 
 use crate::fault::Refusal;
 use dlms_data::Descriptor;
@@ -131,18 +132,22 @@ fn fields_in(apdu: &[u8]) -> Option<Notification<'_>>
     }
 }
 
-/// Why an APDU without such fields is no notification.
-fn refusal_of(apdu: &[u8]) -> Refusal {
-    match apdu.first() {
-        Some(&DATA) | Some(&EVENT) => Refusal::Malformed,
-        first => Refusal::Another(first.copied()),
+/// Why an APDU is no notification.
+fn refusal_of(apdu: &[u8]) -> Refusal
+    ensures { result ≡ refusal_of apdu.now }
+{
+    match apdu {
+        [] => Refusal::Another(None),
+        [DATA | EVENT, ..] => Refusal::Malformed,
+        [first, ..] => Refusal::Another(Some(*first)),
     }
 }
 
 /// Reads a notification, which must be all of an APDU. Its value is one value of at most eight levels, and nothing follows it.
 pub fn read_notification(apdu: &[u8]) -> Result<Notification<'_>, Refusal>
     ensures ok { IfOk result (λ n. IsNotification apdu.now (said n)) }
-    ensures err { IfErr result (λ _. (n : Said) → IsNotification apdu.now n → ⊥) }
+    ensures err { IfErr result (λ _. IsNone apdu.now) }
+    ensures why { IfErr result (λ why. why ≡ refusal_of apdu.now) }
 {
     let Some(notification) = fields_in(apdu) else {
         return Err(refusal_of(apdu));
@@ -150,6 +155,6 @@ pub fn read_notification(apdu: &[u8]) -> Result<Notification<'_>, Refusal>
     if is_value(notification.value) {
         Ok(notification)
     } else {
-        Err(Refusal::Malformed)
+        Err(refusal_of(apdu))
     }
 }
