@@ -1,6 +1,8 @@
-//! A TCP port at which several meters push at once.
+//! TCP and UDP ports at which several meters push at once.
 #![tactic(auto)]
 
+mod datagrams;
 mod port;
 
+pub use datagrams::DatagramPort;
 pub use port::{Arrival, PIECE, PushPort};

@@ -1,5 +1,10 @@
 //! The port, and the connections of the meters.
 
+ghost use Rattle.std.specs.Prelude.{◌≡◌, ◌<◌, ◌≤◌, IfOk, IfSome, length};
+ghost use Rattle.dlms_pushes.specs.Port.{IsWithin};
+ghost use Rattle.dlms_pushes.specs.declared.port.Arrival.TheVariants.{Closed};
+ghost use Rattle.dlms_pushes.specs.declared.port.TheConstants.{MOST_SEATS, PIECE};
+
 use dlms_pages::refuse_standard;
 use mio::net::{TcpListener, TcpStream};
 use mio::{Events, Interest, Poll, Token};
@@ -55,6 +60,7 @@ pub struct PushPort {
     round: u64,
     /// Whether something came in this round.
     is_busy: bool,
+    ghost few: { length seats.items ≤ MOST_SEATS },
 }
 
 /// Listens at the first address of a place that the system allows.
@@ -70,14 +76,18 @@ fn bind<R: Net + AllocGlobal>(rt: &R, place: &str) -> io::Result<TcpListener> {
 }
 
 /// Reads from a connection in this round.
-fn read_in(seat: &mut Seat, round: u64, piece: &mut [u8; PIECE]) -> io::Result<usize> {
+fn read_in(seat: &mut Seat, round: u64, piece: &mut [u8; PIECE]) -> io::Result<usize>
+    ensures { IfOk result (λ count. count ≤ PIECE) }
+{
     let count = seat.stream.read(piece)?;
     seat.heard = round;
     Ok(count)
 }
 
 /// Reads from a seat in this round; a free one has nothing.
-fn read_from(seat: &mut Option<Seat>, round: u64, piece: &mut [u8; PIECE]) -> io::Result<usize> {
+fn read_from(seat: &mut Option<Seat>, round: u64, piece: &mut [u8; PIECE]) -> io::Result<usize>
+    ensures { IfOk result (λ count. count ≤ PIECE) }
+{
     match seat {
         Some(seat) => read_in(seat, round, piece),
         None => Err(ErrorKind::WouldBlock.into()),
@@ -109,12 +119,16 @@ impl PushPort {
     }
 
     /// The first seat that is free.
-    fn free_seat(&self) -> Option<usize> {
+    fn free_seat(&self) -> Option<usize>
+        ensures { IfSome result (λ at. at < length self.now.seats.items) }
+    {
         self.seats.iter().position(|seat| seat.is_none())
     }
 
     /// The seat that was silent longest.
-    fn oldest_seat(&self) -> usize {
+    fn oldest_seat(&self) -> usize
+        ensures { result < MOST_SEATS }
+    {
         let mut oldest = 0;
         let mut heard = u64::MAX;
         for (at, seat) in self.seats.iter().enumerate() {
@@ -129,7 +143,9 @@ impl PushPort {
     }
 
     /// Ends the connection of a seat.
-    fn close(&mut self, at: usize) -> Arrival {
+    fn close(&mut self, at: usize) -> Arrival
+        ensures { result ≡ Closed at }
+    {
         if let Some(seat) = self.seats.get_mut(at) {
             *seat = None;
         }
@@ -137,7 +153,10 @@ impl PushPort {
     }
 
     /// Gives a connection a seat.
-    fn seat(&mut self, at: usize, stream: TcpStream) -> io::Result<()> {
+    fn seat(&mut self, at: usize, stream: TcpStream) -> io::Result<()>
+        requires most { at < MOST_SEATS }
+        requires next { at ≤ length self.old.seats.items }
+    {
         let mut stream = stream;
         refuse_standard(stream.as_raw_fd())?;
         self.poll
@@ -155,7 +174,9 @@ impl PushPort {
     }
 
     /// Takes the next connection that waits, if there is one, or first ends another one for it.
-    fn admit(&mut self) -> io::Result<Option<Arrival>> {
+    fn admit(&mut self) -> io::Result<Option<Arrival>>
+        ensures { IfOk result (λ arrival. IfSome arrival IsWithin) }
+    {
         let at = match self.free_seat() {
             Some(at) => at,
             None if self.seats.len() < MOST_SEATS => self.seats.len(),
@@ -175,7 +196,10 @@ impl PushPort {
     }
 
     /// Reads from a seat, if octets wait there.
-    fn read(&mut self, at: usize, piece: &mut [u8; PIECE]) -> Option<Arrival> {
+    fn read(&mut self, at: usize, piece: &mut [u8; PIECE]) -> Option<Arrival>
+        requires { at < MOST_SEATS }
+        ensures { IfSome result IsWithin }
+    {
         let round = self.round;
         let read = match self.seats.get_mut(at) {
             Some(seat) => read_from(seat, round, piece),
@@ -204,7 +228,9 @@ impl PushPort {
     }
 
     /// The next thing that happens; its octets are the first ones of the piece. It waits until there is one.
-    pub fn next(&mut self, piece: &mut [u8; PIECE]) -> io::Result<Arrival> {
+    pub fn next(&mut self, piece: &mut [u8; PIECE]) -> io::Result<Arrival>
+        ensures { IfOk result IsWithin }
+    {
         for _ in 0..u64::MAX {
             let arrival = if self.at < self.seats.len() {
                 let at = self.at;
