@@ -30,9 +30,11 @@ use std::rt::Files;
 use std::time::Clock;
 use std::{fs, io};
 
+mod callers;
 mod demo;
 mod expected;
 mod filed;
+mod hearing;
 mod introduced;
 mod listening;
 mod looking;
@@ -41,6 +43,7 @@ mod named;
 mod occupant;
 mod outcome;
 mod polled;
+mod skipped;
 mod streams;
 mod watched;
 
@@ -71,7 +74,7 @@ const OUTPUT: &str = "standard output";
 const STANDARD_ERROR: RawFd = 2;
 
 /// Which of the streams are terminals.
-#[derive(Clone, Copy, Debug, PartialEq, Eq)]
+#[derive(Clone, Copy, PartialEq, Eq)]
 pub struct Terminals {
     pub output: bool,
     pub errors: bool,

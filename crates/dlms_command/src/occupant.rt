@@ -7,7 +7,7 @@ use std::io::{ErrorKind, Read};
 use std::{fs, io};
 
 /// The kind of a file's contents.
-#[derive(Clone, Copy, Debug, PartialEq, Eq)]
+#[derive(Clone, Copy, PartialEq, Eq)]
 pub enum Occupant {
     /// Nothing: the file is not there, or is empty.
     Nothing,
@@ -18,7 +18,7 @@ pub enum Occupant {
 }
 
 /// What one slot of a file tells.
-#[derive(Clone, Copy, Debug, PartialEq, Eq)]
+#[derive(Clone, Copy, PartialEq, Eq)]
 enum Slot {
     /// The file ends before it.
     End,
