@@ -9,9 +9,9 @@ use crate::units::{Units, write_units};
 use crate::words::Text;
 use dlms_apdu::{Request, Response};
 use dlms_dissect::{
-    Apdu, Came, Control, Fault, Joined, Numbers, Services, Side, Talk, acse_of, behind_llc,
-    has_poll, is_counted, left_of_acse, misfit, parameters_of, read, read_apdu, read_foreign,
-    without_secret,
+    Apdu, Came, Control, Fault, Joined, Numbers, Segments, Services, Side, Talk, acse_of,
+    behind_llc, has_poll, is_counted, left_of_acse, misfit, parameters_of, read, read_apdu,
+    read_foreign, without_secret,
 };
 use dlms_frame::Frame;
 use dlms_names::apdu_name;
@@ -105,6 +105,13 @@ fn explain_response<A: Allocator + Copy>(
     }
 }
 
+/// The tag of a data-notification (IEC 62056-5-3, 9.5), that of an octet-string, and the length of a date-time.
+const NOTIFICATION: u8 = 0x0f;
+
+const OCTET_STRING: u8 = 0x09;
+
+const DATE_TIME: u8 = 12;
+
 /// The tag of an association response.
 const ASSOCIATION_RESPONSE: u8 = 0x61;
 
@@ -185,8 +192,43 @@ fn explain_inside<A: Allocator + Copy, O: Opener>(
     text.go_out();
 }
 
-/// The lines of an APDU, of a ciphered one without its content, and with `hex`, how many of its octets may be shown beside them.
+/// A data-notification without the tag of its date-time, which the standard's grammar does not have.
+fn without_tag<A: Allocator>(alloc: A, bytes: &[u8]) -> Result<Vec<u8, A>, AllocError> {
+    let mut plain = Vec::new(alloc);
+    if let [a, b, c, d, e, _, rest @ ..] = bytes {
+        plain.extend_from_slice(&[*a, *b, *c, *d, *e])?;
+        plain.extend_from_slice(rest)?;
+    }
+    Ok(plain)
+}
+
+/// The lines of an APDU, of a ciphered one without its content, and with `hex`, how many of its octets may be shown beside them. A
+/// data-notification may have a tag before its date-time.
 fn explain_closed<A: Allocator + Copy, O: Opener>(
+    text: &mut Text<A>,
+    alloc: A,
+    opening: &mut Opening<O>,
+    side: Option<Side>,
+    services: &mut Services<A>,
+    bytes: &[u8],
+) -> usize {
+    if !matches!(
+        bytes,
+        [NOTIFICATION, _, _, _, _, OCTET_STRING, DATE_TIME, ..]
+    ) {
+        return explain_plain(text, alloc, opening, side, services, bytes);
+    }
+    let Ok(plain) = without_tag(alloc, bytes) else {
+        text.refuse();
+        return 0;
+    };
+    let shown = explain_plain(text, alloc, opening, side, services, plain.as_slice());
+    drop(plain);
+    shown
+}
+
+/// The same of one of the standard's form.
+fn explain_plain<A: Allocator + Copy, O: Opener>(
     text: &mut Text<A>,
     alloc: A,
     opening: &mut Opening<O>,
@@ -323,6 +365,17 @@ pub fn write_apdu<A: Allocator + Copy>(
     text.end(words)
 }
 
+/// Whether a meter's frame with the number of the one before has another APDU: a port that only sends does not count.
+fn is_another<A: Allocator>(talk: &Talk<A>, side: Option<Side>, frame: &Frame<'_>) -> bool {
+    if frame.segmented || side != Some(Side::Meter) {
+        return false;
+    }
+    match behind_llc(side, frame.info) {
+        Some(apdu) => apdu != talk.meter.apdu(),
+        None => false,
+    }
+}
+
 /// The lines of an information frame, and how many octets of its information may be shown beside them: none of an APDU in segments.
 fn explain_information<A: Allocator + Copy, O: Opener>(
     text: &mut Text<A>,
@@ -341,6 +394,9 @@ fn explain_information<A: Allocator + Copy, O: Opener>(
     write_came(text, came);
     let raw = talk.services.is_raw();
     match came {
+        Came::Again if is_another(talk, side, frame) => {
+            explain_alone(text, alloc, opening, side, raw, info)
+        }
         Came::Apart => explain_alone(text, alloc, opening, side, raw, info),
         Came::NoPoll if !frame.segmented => explain_alone(text, alloc, opening, side, raw, info),
         Came::Whole(count) => {
@@ -353,6 +409,68 @@ fn explain_information<A: Allocator + Copy, O: Opener>(
         }
         _ => 0,
     }
+}
+
+/// The number that is next for these segments.
+fn next_number<A: Allocator>(segments: &Segments<A>) -> u8 {
+    for number in 0..7u8 {
+        if segments.is_next(number) {
+            return number;
+        }
+    }
+    7
+}
+
+/// Takes a UI frame that is a segment of an APDU, and appends the lines of the APDU that it completes.
+fn explain_segment<A: Allocator + Copy, O: Opener>(
+    text: &mut Text<A>,
+    alloc: A,
+    opening: &mut Opening<O>,
+    side: Option<Side>,
+    raw: bool,
+    segments: &mut Segments<A>,
+    frame: &Frame<'_>,
+) {
+    if behind_llc(None, frame.info).is_some() {
+        segments.forget();
+    }
+    let number = next_number(segments);
+    let Ok(came) = segments.take(None, number, frame.segmented, frame.info) else {
+        text.refuse();
+        return;
+    };
+    write_came(text, came);
+    if let Came::Whole(_) = came {
+        let mut services = Services::new(alloc, raw);
+        explain_apdu(text, alloc, opening, side, &mut services, segments.apdu());
+    }
+    if !frame.segmented {
+        segments.forget();
+    }
+}
+
+/// The lines of a UI frame, with an APDU or a segment of one, and how many octets of its information may be shown beside them: none
+/// of an APDU in segments. A notification has the LLC of either side.
+fn explain_unnumbered<A: Allocator + Copy, O: Opener>(
+    text: &mut Text<A>,
+    alloc: A,
+    opening: &mut Opening<O>,
+    side: Option<Side>,
+    talk: &mut Talk<A>,
+    frame: &Frame<'_>,
+) -> usize {
+    let raw = talk.services.is_raw();
+    if let (false, Some(apdu)) = (frame.segmented, behind_llc(None, frame.info)) {
+        let mut services = Services::new(alloc, raw);
+        return explain_apdu(text, alloc, opening, side, &mut services, apdu).saturating_add(LLC);
+    }
+    match side {
+        Some(Side::Client) => {
+            explain_segment(text, alloc, opening, side, raw, &mut talk.client, frame);
+        }
+        _ => explain_segment(text, alloc, opening, side, raw, &mut talk.meter, frame),
+    }
+    0
 }
 
 /// The lines of the parameters of an SNRM or a UA, if it has any, and how many octets of these may be shown beside them: all but
@@ -392,10 +510,7 @@ pub fn explain_content<A: Allocator + Copy, O: Opener>(
             };
             explain_information(text, alloc, opening, side, talk, numbers, frame)
         }
-        Control::Ui => {
-            let raw = talk.services.is_raw();
-            explain_alone(text, alloc, opening, side, raw, frame.info)
-        }
+        Control::Ui => explain_unnumbered(text, alloc, opening, side, talk, frame),
         _ => 0,
     }
 }

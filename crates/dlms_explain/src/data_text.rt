@@ -2,7 +2,8 @@
 
 use crate::date_text::{write_date, write_date_time, write_time};
 use crate::names_text::{is_quantity, write_name};
-use crate::words::{Text, begin, end, number, number_line, octets, signed_number};
+use crate::typed_text::{write_count, write_length, write_typed_plain};
+use crate::words::{Text, begin, end_value, number, octets, signed_number};
 use dlms_data::{Bits, Data};
 use dlms_dissect::{Part, Veiled, is_date_time};
 use dlms_names::code_name;
@@ -38,7 +39,7 @@ fn write_string<A: Allocator>(text: &mut Text<A>, bytes: &[u8]) {
 }
 
 /// The twelve octets of a date-time.
-fn date_time_in(bytes: &[u8]) -> Option<[u8; 12]> {
+pub fn date_time_in(bytes: &[u8]) -> Option<[u8; 12]> {
     let mut octets = [0; 12];
     if bytes.len() != 12 || !is_date_time(bytes) {
         return None;
@@ -89,7 +90,7 @@ pub fn write_string_time<A: Allocator>(text: &mut Text<A>, bytes: &[u8]) {
 }
 
 /// Bits, the first one first.
-fn write_bits<A: Allocator>(text: &mut Text<A>, bits: &Bits<A>) {
+pub fn write_bits<A: Allocator>(text: &mut Text<A>, bits: &Bits<A>) {
     let mut left = bits.len();
     for byte in bits.as_bytes() {
         let mut weight = 128u8;
@@ -117,7 +118,7 @@ fn write_signed<A: Allocator>(text: &mut Text<A>, kind: &str, value: i64) {
 }
 
 /// The type and the number of a value that is never below 0.
-fn unsigned_of<A: Allocator>(value: &Data<A>) -> Option<(&'static str, u64)> {
+pub fn unsigned_of<A: Allocator>(value: &Data<A>) -> Option<(&'static str, u64)> {
     match value {
         Data::DoubleLongUnsigned(n) => Some(("double-long-unsigned ", u64::from(*n))),
         Data::Unsigned(n) => Some(("unsigned ", u64::from(*n))),
@@ -129,7 +130,7 @@ fn unsigned_of<A: Allocator>(value: &Data<A>) -> Option<(&'static str, u64)> {
 }
 
 /// The type and the number of a value that may be below 0.
-fn signed_of<A: Allocator>(value: &Data<A>) -> Option<(&'static str, i64)> {
+pub fn signed_of<A: Allocator>(value: &Data<A>) -> Option<(&'static str, i64)> {
     match value {
         Data::DoubleLong(z) => Some(("double-long ", i64::from(*z))),
         Data::Integer(z) => Some(("integer ", i64::from(*z))),
@@ -181,6 +182,10 @@ fn write_number<A: Allocator>(text: &mut Text<A>, value: &Data<A>) {
 
 /// The line of a value that holds no other values.
 pub fn write_plain<A: Allocator>(text: &mut Text<A>, value: &Data<A>) {
+    if text.is_typed {
+        write_typed_plain(text, value);
+        return;
+    }
     match value {
         Data::BitString(bits) => {
             text.push("bit-string ");
@@ -223,7 +228,7 @@ fn write_items<A: Allocator>(
     kind: &str,
     items: &[Data<A>],
 ) {
-    number_line(text, depth, kind, items.len() as u64, "");
+    write_count(text, depth, kind, items.len() as u64);
     if room == 0 {
         return;
     }
@@ -244,14 +249,29 @@ fn write_tree<A: Allocator>(text: &mut Text<A>, depth: u8, room: u8, value: &Dat
         plain => {
             begin(text, depth);
             write_plain(text, plain);
-            end(text);
+            end_value(text);
         }
     }
 }
 
-/// The lines of a value: the first one at this depth, and its inner values a level deeper.
-pub fn write_levels<A: Allocator>(text: &mut Text<A>, depth: u8, value: &Data<A>) {
+/// The lines of a value in words: the first one at this depth, and its inner values a level deeper.
+pub fn write_words<A: Allocator>(text: &mut Text<A>, depth: u8, value: &Data<A>) {
     write_tree(text, depth, MOST_LEVELS, value);
+}
+
+/// The same lines as objects of JSON, if the output is JSON.
+pub fn write_objects<A: Allocator>(text: &mut Text<A>, depth: u8, value: &Data<A>) {
+    if text.is_json {
+        text.is_typed = true;
+        write_tree(text, depth, MOST_LEVELS, value);
+        text.is_typed = false;
+    }
+}
+
+/// The lines of a value in words, and as objects of JSON if the output is JSON.
+pub fn write_levels<A: Allocator>(text: &mut Text<A>, depth: u8, value: &Data<A>) {
+    write_words(text, depth, value);
+    write_objects(text, depth, value);
 }
 
 /// Appends to the text the lines of a value that was read: the first one at this depth, and its inner values a level deeper.
@@ -290,7 +310,7 @@ fn write_veiled_items<A: Allocator>(
     count: usize,
     veiled: &Veiled<'_, A>,
 ) {
-    number_line(text, depth, kind, count as u64, "");
+    write_count(text, depth, kind, count as u64);
     if room == 0 {
         return;
     }
@@ -318,19 +338,19 @@ fn write_veiled_tree<A: Allocator>(
             write_veiled_items(text, depth, room, "structure of ", count, veiled);
         }
         Part::OctetString(len) => {
-            number_line(text, depth, "octet-string of ", len as u64, " octets");
+            write_length(text, depth, "octet-string of ", len as u64, " octets");
         }
         Part::VisibleString(len) => {
-            number_line(text, depth, "visible-string of ", len as u64, " octets");
+            write_length(text, depth, "visible-string of ", len as u64, " octets");
         }
         Part::Utf8String(len) => {
-            number_line(text, depth, "utf8-string of ", len as u64, " octets");
+            write_length(text, depth, "utf8-string of ", len as u64, " octets");
         }
-        Part::BitString(len) => number_line(text, depth, "bit-string of ", len as u64, " bits"),
+        Part::BitString(len) => write_length(text, depth, "bit-string of ", len as u64, " bits"),
         Part::Plain(plain) => {
             begin(text, depth);
             write_plain(text, plain);
-            end(text);
+            end_value(text);
         }
     }
 }
@@ -338,4 +358,9 @@ fn write_veiled_tree<A: Allocator>(
 /// The lines of a value that may be a secret, or hold one: of a string how long it is.
 pub fn write_veiled<A: Allocator>(text: &mut Text<A>, depth: u8, veiled: &Veiled<'_, A>) {
     write_veiled_tree(text, depth, MOST_LEVELS, veiled);
+    if text.is_json {
+        text.is_typed = true;
+        write_veiled_tree(text, depth, MOST_LEVELS, veiled);
+        text.is_typed = false;
+    }
 }

@@ -104,6 +104,48 @@ pub fn write_date_time<A: Allocator>(text: &mut Text<A>, octets: [u8; 12]) {
     write_status(text, status);
 }
 
+/// The minutes of local time from UTC, as ISO 8601 has them, if they are specified.
+fn write_offset<A: Allocator>(text: &mut Text<A>, deviation: [u8; 2]) {
+    if u16::from_be_bytes(deviation) == NO_DEVIATION {
+        return;
+    }
+    let minutes = i16::from_be_bytes(deviation);
+    let size = minutes.unsigned_abs();
+    text.either(minutes > 0, "-", "+");
+    two_digits(text, (size / 60 % 100) as u8);
+    text.push(":");
+    two_digits(text, (size % 60) as u8);
+}
+
+/// The member with a date-time of this century as ISO 8601; nothing if a part of it is left open.
+pub fn write_iso_time<A: Allocator>(text: &mut Text<A>, octets: [u8; 12]) {
+    let [
+        high,
+        low,
+        month,
+        day,
+        _,
+        hour,
+        minute,
+        second,
+        _,
+        more,
+        less,
+        _,
+    ] = octets;
+    let year = u64::from(high) * 256 + u64::from(low);
+    let is_named = 2000 <= year && year < 2100 && month <= 12 && day <= 31;
+    if !is_named || hour > 23 || minute > 59 || second > 59 {
+        return;
+    }
+    text.push(",\"time\":\"");
+    write_day(text, [high, low, month, day]);
+    text.push("T");
+    write_hour(text, [hour, minute, second, 0]);
+    write_offset(text, [more, less]);
+    text.push("\"");
+}
+
 /// A date of five octets.
 pub fn write_date<A: Allocator>(text: &mut Text<A>, octets: [u8; 5]) {
     let [high, low, month, day, _] = octets;

@@ -17,8 +17,8 @@ use crate::session::Form;
 use crate::short::{Beside, View, write_view};
 use crate::words::{Text, end, line};
 use dlms_dissect::{
-    Control, Found, Line, Side, Stretch, Talk, Talks, first_piece, heading_of, line_of, parties_of,
-    read, side_of,
+    Control, Found, Line, Side, Stretch, Talk, Talks, behind_llc, first_piece, heading_of, line_of,
+    parties_of, read, side_of,
 };
 use dlms_frame::Frame;
 use dlms_security::{NoKeys, Opener};
@@ -106,6 +106,17 @@ fn expect_unheard<A: Allocator + Copy>(talk: &mut Talk<A>, side: Option<Side>, c
     }
 }
 
+/// Who sends a frame. A UI frame without the LLC of a client is a notification of a meter or a piece of one, also if the client's
+/// address has two octets, as a meter's has.
+fn sender_of(said: Option<Side>, frame: &Frame<'_>) -> Option<Side> {
+    match read(frame.control) {
+        Control::Ui if said.is_none() && behind_llc(Some(Side::Client), frame.info).is_none() => {
+            Some(Side::Meter)
+        }
+        _ => side_of(said, frame),
+    }
+}
+
 /// Explains a frame with these octets.
 fn explain_frame<A: Allocator + Copy, O: Opener>(
     text: &mut Text<A>,
@@ -116,7 +127,7 @@ fn explain_frame<A: Allocator + Copy, O: Opener>(
     frame: &Frame<'_>,
     octets: &[u8],
 ) {
-    let side = side_of(said, frame);
+    let side = sender_of(said, frame);
     let parties = parties_of(side, frame);
     view.opening.follow(parties);
     let mut talk = talks.take(alloc, parties);

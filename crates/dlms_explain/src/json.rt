@@ -133,11 +133,73 @@ fn write_told<A: Allocator>(text: &mut Text<A>, full: &str, has_service: bool) {
             has_object = true;
             continue;
         }
+        if object_depth(line).is_some() || is_members(line) {
+            continue;
+        }
         text.either(is_begun, ",", ",\"told\":[");
         push_string(text, line.trim_start());
         is_begun = true;
     }
     text.push_if(is_begun, "]");
+}
+
+/// How deep a line is that is the object of a value; nothing for another one.
+fn object_depth(line: &str) -> Option<usize> {
+    let words = line.trim_start();
+    if words.starts_with("{") {
+        Some(line.len().saturating_sub(words.len()) / 2)
+    } else {
+        None
+    }
+}
+
+/// Whether a line is members of the object.
+fn is_members(line: &str) -> bool {
+    line.trim_start().starts_with(",")
+}
+
+/// The members in the full explanation that are written as they are.
+fn write_members<A: Allocator>(text: &mut Text<A>, full: &str) {
+    for line in full.lines() {
+        text.push_if(is_members(line), line.trim_start());
+    }
+}
+
+/// Closes arrays and structures until so many are open. Returns how many are.
+fn close_to<A: Allocator>(text: &mut Text<A>, open: usize, wanted: usize) -> usize {
+    for _ in wanted..open {
+        text.push("]}");
+    }
+    open.min(wanted)
+}
+
+/// The values in the full explanation, in their order.
+fn write_values<A: Allocator>(text: &mut Text<A>, full: &str) {
+    let mut base = 0;
+    let mut open = 0;
+    let mut is_first = true;
+    let mut was_opened = false;
+    for line in full.lines() {
+        let Some(depth) = object_depth(line) else {
+            continue;
+        };
+        if open == 0 || depth < base {
+            base = depth;
+        }
+        let still = close_to(text, open, depth.saturating_sub(base));
+        text.push_if(is_first, ",\"values\":[");
+        text.push_if(!is_first && (still < open || !was_opened), ",");
+        text.push(line.trim_start());
+        is_first = false;
+        was_opened = line.ends_with("[");
+        open = if was_opened {
+            still.saturating_add(1)
+        } else {
+            still
+        };
+    }
+    close_to(text, open, 0);
+    text.push_if(!is_first, "]");
 }
 
 /// The service in the full explanation, if there is one.
@@ -163,6 +225,8 @@ fn write_lines<A: Allocator>(text: &mut Text<A>, full: &str, has_service: bool) 
     }
     write_object(text, full);
     write_told(text, full, has_service);
+    write_values(text, full);
+    write_members(text, full);
 }
 
 /// The outcome of opening a ciphered APDU: the APDU in it with its explanation, or why it was not opened.

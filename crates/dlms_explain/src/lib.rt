@@ -27,6 +27,7 @@ mod place_text;
 mod service_text;
 mod session;
 mod short;
+mod typed_text;
 mod units;
 mod words;
 mod wrapper;

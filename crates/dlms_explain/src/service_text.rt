@@ -1,7 +1,8 @@
 //! The lines of GET, SET and ACTION, and of exceptions. No octet of a secret comes here, nor of a string that may be one.
 
-use crate::data_text::{write_inline, write_levels, write_veiled};
+use crate::data_text::{write_inline, write_levels, write_objects, write_veiled, write_words};
 use crate::names_text::write_name;
+use crate::typed_text::write_secret;
 use crate::units::ScalerUnit;
 use crate::words::{
     Text, begin, end, line, name_and_number, named_line, number, number_line, signed_number,
@@ -83,13 +84,13 @@ fn write_range<A: Allocator>(text: &mut Text<A>, value: &Data<A>) {
         && let [object, from, to, columns] = items.as_slice()
     {
         line(text, 3, "restricting object");
-        write_levels(text, 4, object);
+        write_words(text, 4, object);
         write_part(text, "from ", from);
         write_part(text, "to ", to);
         write_part(text, "selected values: ", columns);
         return;
     }
-    write_levels(text, 3, value);
+    write_words(text, 3, value);
 }
 
 /// The lines of a selection by entry: from and to an entry, from and to a column.
@@ -104,7 +105,7 @@ fn write_entries<A: Allocator>(text: &mut Text<A>, value: &Data<A>) {
         write_part(text, "to selected value ", last);
         return;
     }
-    write_levels(text, 3, value);
+    write_words(text, 3, value);
 }
 
 /// The lines of a selector, if there is one.
@@ -118,9 +119,10 @@ fn write_selector<A: Allocator>(text: &mut Text<A>, selector: Option<&Selector<A
         other => {
             let label = "selective access by selector ";
             number_line(text, 2, label, u64::from(other), "");
-            write_levels(text, 3, &selector.value);
+            write_words(text, 3, &selector.value);
         }
     }
+    write_objects(text, 2, &selector.value);
 }
 
 /// The line of a block: its number, whether it is the last one, how many octets it has.
@@ -167,7 +169,7 @@ fn write_content<A: Allocator>(text: &mut Text<A>, content: &Content<'_, A>) {
         Content::Nothing => {}
         Content::Value(value) => write_levels(text, 2, value),
         Content::Unknown(veiled) => write_veiled(text, 2, veiled),
-        Content::Secret => line(text, 2, "(secret)"),
+        Content::Secret => write_secret(text, 2),
         Content::Block { last, number, len } => write_block(text, *last, *number, *len),
         Content::Next(number) => write_number(text, "next after block ", *number),
         Content::Taken(number) => write_number(text, "taken: block ", *number),
@@ -266,7 +268,7 @@ fn write_no_value<A: Allocator>(text: &mut Text<A>, fault: Fault) {
 pub fn write_whole<A: Allocator>(text: &mut Text<A>, len: usize, whole: &Whole<A>) {
     number_line(text, 2, "all blocks joined, ", len as u64, " octets");
     match whole {
-        Whole::Secret => line(text, 3, "(secret)"),
+        Whole::Secret => write_secret(text, 3),
         Whole::Value(value) => write_levels(text, 3, value),
         Whole::Unknown(covered) => write_veiled(text, 3, &covered.report()),
         Whole::Unreadable(fault) => write_no_value(text, *fault),

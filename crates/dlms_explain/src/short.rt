@@ -39,6 +39,7 @@ impl<A: Allocator + Copy, O: Opener> View<A, O> {
     {
         let mut full = Text::flat_if(form.layout.is_one_line(), String::new(alloc));
         full.has_parts = !matches!(form.layout, Layout::Short);
+        full.is_json = form.layout.is_json();
         View {
             form,
             stamp: String::new(alloc),

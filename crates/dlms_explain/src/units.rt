@@ -2,7 +2,7 @@
 
 use crate::data_text::number_in;
 use crate::service_text::{is_scaler_unit, scaler_unit_in};
-use crate::words::{Text, begin, end, name_and_number};
+use crate::words::{Text, begin, end, name_and_number, signed_number};
 use dlms_data::Data;
 use dlms_dissect::{Content, Named, Said};
 use dlms_names::unit_name;
@@ -135,6 +135,27 @@ fn write_line<A: Allocator>(text: &mut Text<A>, is_negative: bool, number: u64, 
         Some(name) => text.push(name),
         None => name_and_number(text, None, "unit", u64::from(found.unit)),
     }
+    end(text);
+    if text.is_json {
+        write_members(text, is_negative, number, found);
+    }
+}
+
+/// The same as members of an object of JSON, after others.
+fn write_members<A: Allocator>(
+    text: &mut Text<A>,
+    is_negative: bool,
+    number: u64,
+    found: ScalerUnit,
+) {
+    begin(text, 3);
+    text.either(is_negative, ",\"scaled\":-", ",\"scaled\":");
+    write_scaled(text, number, found.scaler);
+    text.push(",\"scaler\":");
+    signed_number(text, i64::from(found.scaler));
+    text.push(",\"unit\":\"");
+    text.push(unit_name(found.unit).unwrap_or(""));
+    text.push("\"");
     end(text);
 }
 

@@ -30,6 +30,10 @@ pub struct Text<A: Allocator> {
     is_flat: bool,
     /// Whether the lines of a value's parts are written: in one line they are left out.
     pub has_parts: bool,
+    /// Each value is also written as objects of JSON, a line each.
+    pub is_json: bool,
+    /// The lines that are written are those objects.
+    pub is_typed: bool,
     /// How many levels all lines are deeper.
     depth: u8,
     /// Where the line of a verdict begins, and the verdict.
@@ -53,6 +57,8 @@ impl<A: Allocator> Text<A> {
             is_refused: false,
             is_flat,
             has_parts: true,
+            is_json: false,
+            is_typed: false,
             depth: 0,
             verdict: None,
         }
@@ -198,6 +204,13 @@ pub fn begin<A: Allocator>(text: &mut Text<A>, depth: u8) {
 /// Ends a line.
 pub fn end<A: Allocator>(text: &mut Text<A>) {
     text.push("\n");
+}
+
+/// Ends the line of a value, and its object.
+pub fn end_value<A: Allocator>(text: &mut Text<A>) {
+    let is_typed = text.is_typed;
+    text.push_if(is_typed, "}");
+    end(text);
 }
 
 /// A line of these words.
