@@ -21,13 +21,6 @@ impl Bump {
         }
     }
 
-    /// Nothing is left: it only takes blocks back.
-    pub fn spent() -> Bump {
-        Bump {
-            left: Cell::new(None),
-        }
-    }
-
     /// The first bytes of what is left, if there are as many.
     pub(crate) fn cut(&self, size: usize) -> Option<Room>
         requires { size % 16 ≡ 0 }

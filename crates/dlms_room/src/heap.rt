@@ -9,35 +9,83 @@ use crate::sizes::{KINDS, UNIT, kind_of, size_of_block};
 use std::alloc::{AllocError, Allocator};
 use std::cell::Cell;
 
-/// The freed blocks of one kind.
-type Freed<'b> = Cell<Vec<Room, &'b Bump>>;
+/// The size of the block for the heads of the lists: 8 bytes for each kind.
+const HEADS: usize = 4096;
 
-/// An allocator over a room: a request gets a freed block of its size, or else one from the room's front.
+/// The number of bytes of the index for each slot in it, twice what a slot takes: a block's size is rounded up.
+const BYTES_OF_A_SLOT: usize = 64;
+
+/// No slot has this number.
+const NO_SLOT: usize = usize::MAX;
+
+/// A place for a freed block, and the number of the next slot in the same list.
 #[derive(Drop)]
-pub struct RoomHeap<'b> {
-    bump: &'b Bump,
-    freed: Vec<Freed<'b>, &'b Bump>,
+struct Slot {
+    block: Cell<Option<Room>>,
+    next: Cell<usize>,
 }
 
-impl<'b> RoomHeap<'b> {
-    /// A heap without freed blocks.
-    pub fn over(bump: &'b Bump) -> Result<RoomHeap<'b>, AllocError> {
-        let mut freed = Vec::with_capacity(bump, KINDS)?;
-        for _ in 0..KINDS {
-            freed.push(Cell::new(Vec::new(bump)))?;
+/// An allocator over a room: a request gets a freed block of its size, or else one from the room's front. It has no lifetime
+/// parameter, so that a value that outlives a call can keep a reference to it.
+pub struct RoomHeap {
+    bump: Bump,
+    slots: Vec<Slot, Bump>,
+    /// The first slot in the list of freed blocks of each kind.
+    heads: Vec<Cell<usize>, Bump>,
+    /// The first slot in the list of unused ones.
+    unused: Cell<usize>,
+}
+
+/// Empty lists for each kind.
+fn heads_over(room: Room) -> Result<Vec<Cell<usize>, Bump>, AllocError> {
+    let mut heads = Vec::with_capacity(Bump::over(room), KINDS)?;
+    for _ in 0..KINDS {
+        heads.push(Cell::new(NO_SLOT))?;
+    }
+    Ok(heads)
+}
+
+/// This number of unused slots, in one list that begins with the first.
+fn slots_over(room: Room, count: usize) -> Result<Vec<Slot, Bump>, AllocError> {
+    let mut slots = Vec::with_capacity(Bump::over(room), count)?;
+    for next in 0..count {
+        slots.push(Slot {
+            block: Cell::new(None),
+            next: Cell::new(next + 1),
+        })?;
+    }
+    Ok(slots)
+}
+
+impl RoomHeap {
+    /// A heap without freed blocks. A sixteenth of the room is the index of the freed blocks; a room of less than 64 KiB is too small.
+    pub fn over(room: Room) -> Result<RoomHeap, AllocError> {
+        let (size, room) = room.with_size();
+        let index = size / 256 * UNIT;
+        if index < HEADS {
+            return Err(AllocError);
         }
-        Ok(RoomHeap { bump, freed })
+        let (heads, room) = room.split(HEADS);
+        let (slots, room) = room.split(index - HEADS);
+        Ok(RoomHeap {
+            bump: Bump::over(room),
+            slots: slots_over(slots, (index - HEADS) / BYTES_OF_A_SLOT)?,
+            heads: heads_over(heads)?,
+            unused: Cell::new(0),
+        })
     }
 
     /// A freed block of this size, if one is kept.
     fn reuse(&self, size: usize) -> Option<Room>
         ensures { IfSome result (λ block. block.size ≡ size) }
     {
-        let kept = self.freed.get(kind_of(size))?;
-        let mut blocks = kept.replace(Vec::new(self.bump));
-        let block = blocks.pop();
-        kept.set(blocks);
-        let (have, block) = block?.with_size();
+        let head = self.heads.get(kind_of(size))?;
+        let at = head.get();
+        let slot = self.slots.get(at)?;
+        head.set(slot.next.get());
+        slot.next.set(self.unused.get());
+        self.unused.set(at);
+        let (have, block) = slot.block.replace(None)?.with_size();
         if have == size { Some(block) } else { None }
     }
 
@@ -55,19 +103,41 @@ impl<'b> RoomHeap<'b> {
         }
     }
 
-    /// Keeps a block for a later request. If its place in the list needs memory that is refused, the block is lost.
+    /// Keeps a block for a later request. If all slots are used, the block is lost.
     fn give(&self, block: Room) {
         let (size, block) = block.with_size();
-        let Some(kept) = self.freed.get(kind_of(size)) else {
+        let Some(head) = self.heads.get(kind_of(size)) else {
             return;
         };
-        let mut blocks = kept.replace(Vec::new(self.bump));
-        let _pushed = blocks.push(block);
-        kept.set(blocks);
+        let at = self.unused.get();
+        let Some(slot) = self.slots.get(at) else {
+            return;
+        };
+        self.unused.set(slot.next.get());
+        slot.next.set(head.get());
+        slot.block.set(Some(block));
+        head.set(at);
     }
 }
 
-unsafe impl Allocator for RoomHeap<'_> {
+impl Drop for RoomHeap {
+    // The room is not used again. (What is left of it is named by its type: the check finds no plan for this function otherwise.)
+    fn drop(self) {
+        let RoomHeap {
+            bump,
+            slots,
+            heads,
+            unused: _,
+        } = self;
+        let rest: Option<Room> = bump.cut(0);
+        drop(rest);
+        drop(bump);
+        drop(slots);
+        drop(heads);
+    }
+}
+
+unsafe impl Allocator for RoomHeap {
     ghost dealloc_token = { λ _. block_rest };
 
     fn allocate(&self, size: usize, align: usize) -> Result<*mut u8, AllocError> {

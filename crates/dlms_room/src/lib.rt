@@ -5,7 +5,9 @@ mod bump;
 mod heap;
 mod room;
 mod sizes;
+mod spent;
 
 pub use bump::Bump;
 pub use heap::RoomHeap;
 pub use room::Room;
+pub use spent::Spent;
