@@ -1,0 +1,2 @@
+mod HandleValues
+mod Values
