@@ -13,7 +13,8 @@ IsOctetsText later b text =
     ⊎ (((second : ℕ) → IsClock b second → LAST_SECOND < second + later) × (text ≡ text_of_octets b))
 
 abbrev pub IsShownText : ℕ → ℤ → Value → ℕ → List ℕ → Type 0
-IsShownText period scaler (octets k b) age text = IsOctetsText (min (age * period) (2 ^ 64 - 1)) b text
+IsShownText period scaler (octets k b) age text = IsOctetsText (min (age * period)
+    (2 ^ 64 - 1)) b text
 IsShownText period scaler value age text = IsTextOf scaler value text
 
 -- the text of a value that was given this many rows before, in a column whose clock moves on by this many seconds with each row

@@ -15,7 +15,8 @@ digits_and n separator = two_digits n ++ separator ∷ []
 unfoldable pub iso_of : List ℕ → List ℕ
 iso_of o =
     two_digits (year_of o / 100) ++ digits_and (year_of o % 100) 45 ++ digits_and (month_of o) 45
-    ++ digits_and (day_of o) 84 ++ digits_and (slice_index o 5) 58 ++ digits_and (slice_index o 6) 58
+    ++ digits_and (day_of o) 84 ++ digits_and (slice_index o 5) 58
+    ++ digits_and (slice_index o 6) 58
     ++ two_digits (slice_index o 7)
 
 -- an offset from UTC after its sign: hours and minutes

@@ -16,4 +16,5 @@ object_of c =
 
 -- the numbers are in the range of their types, and the name has six octets
 abbrev pub IsInRange : Column → Type 0
-IsInRange c = (c.class < 2 ^ 16) × (length c.name ≡ 6) × FitsSigned w8 c.attribute × (c.index < 2 ^ 16)
+IsInRange c = (c.class < 2 ^ 16) × (length c.name ≡ 6) × FitsSigned w8 c.attribute
+    × (c.index < 2 ^ 16)

@@ -17,5 +17,6 @@ range clock from to =
 -- entry_descriptor: the first entry; 0 for the last one there is; the first column; 0 for the last one there is
 abbrev pub entries : ℕ → Value
 entries from =
-    structure (cons (double_long_unsigned from) (cons (double_long_unsigned 0) (cons (long_unsigned 1)
+    structure (cons (double_long_unsigned from) (cons (double_long_unsigned 0) (cons
+    (long_unsigned 1)
     (cons (long_unsigned 0) none))))

@@ -37,7 +37,8 @@ abbrev pub IsTextOf : ℤ → Value → List ℕ → Type 0
 IsTextOf scaler null text = text ≡ []
 IsTextOf scaler dont_care text = text ≡ []
 IsTextOf scaler (boolean b) text = text ≡ word_of b
-IsTextOf scaler (bit_string bits) text = (bytes : List ℕ) × HoldsBits bytes bits × (text ≡ pairs_of bytes)
+IsTextOf scaler (bit_string bits) text = (bytes : List ℕ) × HoldsBits bytes bits
+    × (text ≡ pairs_of bytes)
 IsTextOf scaler (float32 n) text = IsFloatText binary32 (from_bits binary32 n) text
 IsTextOf scaler (float64 n) text = IsFloatText binary64 (from_bits binary64 n) text
 IsTextOf scaler (signed k z) text = text ≡ scaled_signed z scaler

@@ -34,7 +34,8 @@ pub fn append_cell<A: Allocator>(
     period: u32,
     scaler: i8,
 ) -> Result<(), AllocError>
-    ensures { OnOk result (GrewBy (IsCellText period scaler (cell_view cell.now)) text.old.items text.new.items) }
+    ensures { OnOk result (GrewBy (IsCellText period scaler
+        (cell_view cell.now)) text.old.items text.new.items) }
 {
     match cell.value {
         Value::Octets(_, octets) => {

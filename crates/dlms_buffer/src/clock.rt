@@ -91,7 +91,8 @@ fn second_of(octets: &[u8]) -> Option<u32>
 fn second_after(clock: &[u8], later: u64) -> Option<u32>
     ensures some { IfSome result (λ after. (after ≤ LAST_SECOND)
         × ((second : ℕ) × IsClock clock.now second × (after ≡ second + later))) }
-    ensures none { IfNone result ((second : ℕ) → IsClock clock.now second → LAST_SECOND < second + later) }
+    ensures none { IfNone result ((second : ℕ) → IsClock clock.now second
+        → LAST_SECOND < second + later) }
 {
     let second = second_of(clock)?;
     let after = u64::from(second).saturating_add(later);
@@ -109,8 +110,10 @@ pub fn append_clock<A: Allocator>(
     later: u64,
 ) -> Result<bool, AllocError>
     ensures { IfOk result (λ b. MatchBool b
-        ((more : List ℕ) × IsClockText clock.now later more × (text.new.items ≡ text.old.items ++ more))
-        ((text.new ≡ text.old) × ((second : ℕ) → IsClock clock.now second → LAST_SECOND < second + later))) }
+        ((more : List ℕ) × IsClockText clock.now later more
+        × (text.new.items ≡ text.old.items ++ more))
+        ((text.new ≡ text.old)
+        × ((second : ℕ) → IsClock clock.now second → LAST_SECOND < second + later))) }
 {
     let Some(after) = second_after(clock, later) else {
         return Ok(false);

@@ -23,7 +23,8 @@ pub struct Column {
 
 /// The first field, a long-unsigned.
 fn number(fields: &mut Items<'_>) -> Option<u16>
-    ensures some { IfSome result (λ n. values_in fields.old ≡ cons (unsigned LongUnsigned n) (values_in fields.new)) }
+    ensures some { IfSome result (λ n. values_in fields.old
+        ≡ cons (unsigned LongUnsigned n) (values_in fields.new)) }
     ensures none { IfNone result ((n : ℕ) (rest : Values) → n < 2 ^ 16
         → ¬ (values_in fields.old ≡ cons (unsigned LongUnsigned n) rest)) }
 {
@@ -38,7 +39,8 @@ fn number(fields: &mut Items<'_>) -> Option<u16>
 
 /// The first field, an integer.
 fn attribute(fields: &mut Items<'_>) -> Option<i8>
-    ensures some { IfSome result (λ z. values_in fields.old ≡ cons (signed Integer z) (values_in fields.new)) }
+    ensures some { IfSome result (λ z. values_in fields.old
+        ≡ cons (signed Integer z) (values_in fields.new)) }
     ensures none { IfNone result ((z : ℤ) (rest : Values) → FitsSigned w8 z
         → ¬ (values_in fields.old ≡ cons (signed Integer z) rest)) }
 {
@@ -53,7 +55,8 @@ fn attribute(fields: &mut Items<'_>) -> Option<i8>
 
 /// The first field, a logical name.
 fn name(fields: &mut Items<'_>) -> Option<[u8; 6]>
-    ensures some { IfSome result (λ b. values_in fields.old ≡ cons (octets OctetString b) (values_in fields.new)) }
+    ensures some { IfSome result (λ b. values_in fields.old
+        ≡ cons (octets OctetString b) (values_in fields.new)) }
     ensures none { IfNone result ((b : List ℕ) (rest : Values) → length b ≡ 6
         → ¬ (values_in fields.old ≡ cons (octets OctetString b) rest)) }
 {
@@ -71,7 +74,8 @@ fn name(fields: &mut Items<'_>) -> Option<[u8; 6]>
 /// The column of a capture object, if it is one.
 pub fn column_of(object: Value<'_>) -> Option<Column>
     ensures some { IfSome result (λ c. value_of object.entry ≡ object_of c) }
-    ensures none { IfNone result ((c : Column) → IsInRange c → ¬ (value_of object.entry ≡ object_of c)) }
+    ensures none { IfNone result ((c : Column) → IsInRange c
+        → ¬ (value_of object.entry ≡ object_of c)) }
 {
     let Value::Structure(fields) = object else {
         return None;

@@ -35,7 +35,8 @@ fn next_cell<'a>(cell: &Cell<'a>, value: Value<'a>) -> Cell<'a>
 /// The cells of the next row, which has these values.
 fn take_values<'a>(cells: &mut [Cell<'a>], values: Items<'a>)
     requires { count (values_in values) ≡ length cells.old }
-    ensures { map cell_view cells.new ≡ steps (map cell_view cells.old) (listed (values_in values.entry)) }
+    ensures { map cell_view cells.new
+        ≡ steps (map cell_view cells.old) (listed (values_in values.entry)) }
 {
     let mut rest = values;
     for cell in cells.iter_mut() {
@@ -60,7 +61,8 @@ fn take_each<'a>(cells: &mut [Cell<'a>], values: &[Value<'a>])
 impl<'a, A: Allocator> LastRow<'a, A> {
     /// No row yet, of this many columns.
     pub fn new(alloc: A, width: usize) -> Result<Self, AllocError>
-        ensures { IfOk result (λ row. (length row.cells.items ≡ width) × ShowRows [] (map cell_view row.cells.items)) }
+        ensures { IfOk result (λ row. (length row.cells.items ≡ width)
+            × ShowRows [] (map cell_view row.cells.items)) }
     {
         let none = Cell {
             value: Value::Null,
@@ -76,10 +78,12 @@ impl<'a, A: Allocator> LastRow<'a, A> {
     /// Reads the next row. A row that is refused changes nothing.
     pub fn take(&mut self, row: Value<'a>) -> Result<(), BufferFault>
         ensures taken { MatchResult result
-            (λ _. (values : List Given) × (row_of (length self.old.cells.items) (value_of row.entry) ≡ Ok values)
+            (λ _. (values : List Given)
+            × (row_of (length self.old.cells.items) (value_of row.entry) ≡ Ok values)
             × ((rows : List (List Given)) → ShowRows rows (map cell_view self.old.cells.items)
             → ShowRows (rows ++ values ∷ []) (map cell_view self.new.cells.items)))
-            (λ e. (row_of (length self.old.cells.items) (value_of row.entry) ≡ Err e) × (self.new ≡ self.old)) }
+            (λ e. (row_of (length self.old.cells.items) (value_of row.entry) ≡ Err e)
+            × (self.new ≡ self.old)) }
         ensures width { length self.new.cells.items ≡ length self.old.cells.items }
     {
         let Value::Structure(values) = row else {
@@ -97,7 +101,8 @@ impl<'a, A: Allocator> LastRow<'a, A> {
             (λ _. (length values.now ≡ length self.old.cells.items)
             × ((rows : List (List Given)) → ShowRows rows (map cell_view self.old.cells.items)
             → ShowRows (rows ++ map value_of values.now ∷ []) (map cell_view self.new.cells.items)))
-            (λ e. (e ≡ Width) × (length values.now ≢ length self.old.cells.items) × (self.new ≡ self.old)) }
+            (λ e. (e ≡ Width) × (length values.now ≢ length self.old.cells.items)
+            × (self.new ≡ self.old)) }
         ensures width { length self.new.cells.items ≡ length self.old.cells.items }
     {
         if values.len() != self.cells.len() {

@@ -26,7 +26,8 @@ pub fn packed_row<'a, A: Allocator>(
     tags: &[u8],
     contents: &'a [u8],
 ) -> Result<(Vec<Value<'a>, A>, &'a [u8]), BufferFault>
-    ensures { TellsRow (λ x. (map value_of x.0.items, x.1.now)) result (packed_at tags.now contents.now) }
+    ensures { TellsRow
+        (λ x. (map value_of x.0.items, x.1.now)) result (packed_at tags.now contents.now) }
 {
     let mut values = Vec::with_capacity(alloc, tags.len())?;
     let mut rest = contents;

@@ -29,7 +29,8 @@ pub fn by_range<A: Allocator + Copy>(
     from: &[u8; 12],
     to: &[u8; 12],
 ) -> Result<Selector<A>, AllocError>
-    ensures { IfOk result (λ s. (s.number ≡ 1) × (value_of s.value ≡ range clock.now from.now to.now)) }
+    ensures { IfOk result (λ s. (s.number ≡ 1)
+        × (value_of s.value ≡ range clock.now from.now to.now)) }
 {
     let object = restricting(alloc, clock)?;
     let from = octet_string_of(alloc, from)?;

@@ -69,7 +69,8 @@ fn append_count<A: Allocator>(text: &mut Vec<u8, A>, count: u32) -> Result<(), A
 
 /// Appends a float of four octets.
 fn append_float32<A: Allocator>(text: &mut Vec<u8, A>, bits: u32) -> Result<(), AllocError>
-    ensures { OnOk result (GrewBy (IsFloatText binary32 (from_bits binary32 bits)) text.old.items text.new.items) }
+    ensures { OnOk result (GrewBy (IsFloatText binary32
+        (from_bits binary32 bits)) text.old.items text.new.items) }
 {
     let value = f32_from_bits_with_nan(bits);
     if !value.is_finite() {
@@ -82,7 +83,8 @@ fn append_float32<A: Allocator>(text: &mut Vec<u8, A>, bits: u32) -> Result<(), 
 
 /// Appends a float of eight octets.
 fn append_float64<A: Allocator>(text: &mut Vec<u8, A>, bits: u64) -> Result<(), AllocError>
-    ensures { OnOk result (GrewBy (IsFloatText binary64 (from_bits binary64 bits)) text.old.items text.new.items) }
+    ensures { OnOk result (GrewBy (IsFloatText binary64
+        (from_bits binary64 bits)) text.old.items text.new.items) }
 {
     let value = f64_from_bits_with_nan(bits);
     if !value.is_finite() {
@@ -99,7 +101,8 @@ pub fn append_value<A: Allocator>(
     value: &Value<'_>,
     scaler: i8,
 ) -> Result<(), AllocError>
-    ensures { OnOk result (GrewBy (IsTextOf scaler (value_of value.now)) text.old.items text.new.items) }
+    ensures { OnOk result (GrewBy (IsTextOf scaler
+        (value_of value.now)) text.old.items text.new.items) }
 {
     match *value {
         Value::Null | Value::DontCare => Ok(()),

@@ -22,7 +22,7 @@ pub const BY_ENTRY: u8 = 2;
 pub const CLOCK_ID: u8 = 0;
 
 /// The part of the buffer that is wanted.
-#[derive(Clone, Copy, Debug)]
+#[derive(Clone, Copy)]
 pub enum Choice {
     Whole,
     /// The rows from a second of the clock to another, both included, and before them the clock's place in a row, counted

@@ -15,7 +15,7 @@ use dlms_profile::{Row, Rows};
 use std::alloc::{AllocError, Allocator};
 
 /// A field of a row.
-#[derive(Clone, Copy, Debug)]
+#[derive(Clone, Copy)]
 pub enum Cell {
     /// A second of the clock.
     Second(u32),

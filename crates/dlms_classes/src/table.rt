@@ -10,7 +10,7 @@ const WATT_HOURS: u8 = 30;
 const VAR_HOURS: u8 = 32;
 
 /// The content of an attribute.
-#[derive(Clone, Copy, Debug, PartialEq, Eq)]
+#[derive(Clone, Copy, PartialEq, Eq)]
 pub enum Content {
     LogicalName,
     DeviceName,
@@ -43,7 +43,7 @@ pub enum Content {
 }
 
 /// A client's rights to an attribute.
-#[derive(Clone, Copy, Debug, PartialEq, Eq)]
+#[derive(Clone, Copy, PartialEq, Eq)]
 pub enum Rights {
     Nothing,
     Read,
@@ -52,7 +52,7 @@ pub enum Rights {
 }
 
 /// The effect of a method.
-#[derive(Clone, Copy, Debug, PartialEq, Eq)]
+#[derive(Clone, Copy, PartialEq, Eq)]
 pub enum Call {
     /// Listed, and held from everybody.
     Withheld,
@@ -63,7 +63,7 @@ pub enum Call {
     Capture,
 }
 
-#[derive(Clone, Copy, Debug, PartialEq, Eq)]
+#[derive(Clone, Copy, PartialEq, Eq)]
 pub struct Attribute {
     pub content: Content,
     pub public: Rights,
@@ -71,7 +71,7 @@ pub struct Attribute {
 }
 
 /// A row of the table. Attributes and methods are numbered from 1.
-#[derive(Clone, Copy, Debug)]
+#[derive(Clone, Copy)]
 pub struct Object {
     pub class: u16,
     pub version: u8,

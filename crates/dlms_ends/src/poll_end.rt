@@ -186,7 +186,8 @@ impl<A: Allocator + Copy> PollEnd<A> {
 
     /// Passes a piece to the poll, and writes the poll's octets after each call. Once the poll is done the rest of the piece is dropped.
     fn take<W: End>(&mut self, end: &mut W, bytes: &[u8]) -> Result<PollOutcome, RunFault>
-        ensures piece { TakesPiece (W.past end.old) (W.past end.new) self.old.poll bytes.now result self.new.poll }
+        ensures piece { TakesPiece (W.past end.old)
+            (W.past end.new) self.old.poll bytes.now result self.new.poll }
         ensures left { self.new.left ≡ self.old.left }
     {
         let mut rest = bytes;
@@ -223,7 +224,8 @@ impl<A: Allocator + Copy> PollEnd<A> {
 
     /// Passes a timeout to the poll, and writes its octets.
     fn repeat<W: End>(&mut self, end: &mut W) -> Result<PollOutcome, RunFault>
-        ensures told { TakesTimeout (W.past end.old) (W.past end.new) self.old.poll result self.new.poll }
+        ensures told { TakesTimeout (W.past end.old)
+            (W.past end.new) self.old.poll result self.new.poll }
         ensures left { self.new.left ≡ self.old.left }
     {
         match self.poll.wait() {

@@ -34,7 +34,8 @@ Asks (Some before) None calls = ⊥
 Asks (Some before) (Some after) calls = after ≡ before ++ calls
 
 -- The text was asked for, and these are its rows; or it is no file of readings; or the call failed.
-abbrev pub OpensRows : Option (List PlaceCall) → Option (List PlaceCall) → Result (List Row) OpeningFault
+abbrev pub OpensRows : Option (List PlaceCall) → Option (List PlaceCall)
+    → Result (List Row) OpeningFault
     → Type 0
 OpensRows old new (Ok rows) = (text : List ℕ) × IsFile text rows
     × Asks old new (Opens (Ok text) ∷ [])
@@ -90,7 +91,8 @@ Gives old new printed printed' text news (Err (Place e)) =
     ⊎ (Asks old new (Lays text None ∷ Puts (Some e) ∷ []) × Prints printed printed' news)
 
 -- The text of the readings that these rows were merged into was given so, and the new lines in it are those of the added rows.
-abbrev pub GivesRows : {T : Type 0} → (old new : Option (List PlaceCall)) (printed printed' : Printed)
+abbrev pub GivesRows : {T : Type 0}
+    → (old new : Option (List PlaceCall)) (printed printed' : Printed)
     → (before rows : List Row) → Result T FilingFault → (after : List Row) → Type 0
 GivesRows old new printed printed' before rows result after =
     (after ≡ merged before rows) × (text : List ℕ) × IsFile text after
@@ -98,7 +100,8 @@ GivesRows old new printed printed' before rows result after =
 
 -- So it was; or memory ran out, before anything was asked of the place or printed: for the text of the readings as they were, or as
 -- they are merged.
-abbrev pub FilesRows : {T : Type 0} → (old new : Option (List PlaceCall)) (printed printed' : Printed)
+abbrev pub FilesRows : {T : Type 0}
+    → (old new : Option (List PlaceCall)) (printed printed' : Printed)
     → (before rows : List Row) → Result T FilingFault → (after : List Row) → Type 0
 FilesRows old new printed printed' before rows (Ok done) after =
     GivesRows old new printed printed' before rows (Ok done) after

@@ -12,7 +12,7 @@ use std::alloc::{AllocError, Global};
 use std::io;
 
 /// Why rows were not filed.
-#[derive(Clone, Copy, Debug)]
+#[derive(Clone, Copy)]
 pub enum FilingFault {
     /// A growth was refused.
     Memory,
@@ -31,7 +31,7 @@ impl From<AllocError> for FilingFault {
 }
 
 /// Why readings were not opened.
-#[derive(Clone, Copy, Debug)]
+#[derive(Clone, Copy)]
 pub enum OpeningFault {
     /// The call of the place failed, for which the system has these words.
     Place(io::Error),

@@ -30,7 +30,8 @@ Says _ octets result = result ≡ Ok None
 pub data IsRead (old new : Option (List Moment)) (name : List ℕ) (t : TalkValue)
     (result : Result (Option (List ℕ)) CallFault) (t' : TalkValue) : Type 0 where
   IsAnswered : (given : Answer)
-      → Requests MOST (IsFree t) Get (get_normal INVOKE (value_at name) None) old new t (Ok given) t'
+      → Requests MOST (IsFree t) Get (get_normal INVOKE (value_at name) None) old new t
+      (Ok given) t'
       → Says given t'.client.association.blocks.joined result → IsRead old new name t result t'
   IsNot : (why : CallFault)
       → Requests MOST (IsFree t) Get (get_normal INVOKE (value_at name) None) old new t (Err why) t'

@@ -55,7 +55,8 @@ MeterSteps (Values old) at step (Poll new) = ⊥
 MeterSteps (Values old) at step (Text new) = ⊥
 
 -- Of all that happened on a seat, this job was started, then this happened, and then it was handed back as done.
-pub record IsDoneOn (seat : ℕ) (events : List (Event MeterJob Sent JobFault)) (job result : MeterJob)
+pub record IsDoneOn (seat : ℕ) (events : List (Event MeterJob Sent JobFault))
+    (job result : MeterJob)
     : Type 0 where
   pub before : List (Own MeterJob Sent JobFault)
   pub since : List (Own MeterJob Sent JobFault)

@@ -4,7 +4,7 @@ use dlms_client::Fault;
 use dlms_secured::SecuredFault;
 
 /// Why the requests to a meter ended early.
-#[derive(Clone, Copy, Debug, PartialEq, Eq)]
+#[derive(Clone, Copy, PartialEq, Eq)]
 pub enum InquiryFault {
     /// The association is over.
     Talk(Fault),

@@ -40,7 +40,8 @@ failure_behind failure (Err e) = if is_failure (error_kind e) then Some e else f
 -- A read at this time: if nothing more is waited for, it reports that, and the stream is not read; otherwise it is, and an error is
 -- kept.
 abbrev pub ReadsAt : {S : Type 0}
-    → (sent : Instant) (wait : ℕ) (until : Option Deadline) (said : Result Instant Error) (stream : S)
+    → (sent : Instant) (wait : ℕ) (until : Option Deadline) (said : Result Instant Error)
+    (stream : S)
     (failure : Option Error) → Result ℕ Error → (stream' : S) (failure' : Option Error) → Type 0
 ReadsAt sent wait until (Ok now) stream failure result stream' failure' =
     (is_silent sent wait until now ≡ true

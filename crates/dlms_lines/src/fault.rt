@@ -8,7 +8,7 @@ use dlms_identity::Expected;
 use std::io;
 
 /// Why the rows of an answer are refused.
-#[derive(Clone, Copy, Debug, PartialEq, Eq)]
+#[derive(Clone, Copy, PartialEq, Eq)]
 pub enum ClockFault {
     /// The row of this number, counted from 1, is not later than the one before it.
     Fallen(usize),
@@ -17,7 +17,7 @@ pub enum ClockFault {
 }
 
 /// Why a tool of the field ended early.
-#[derive(Clone, Copy, Debug)]
+#[derive(Clone, Copy)]
 pub enum FieldFault<'a> {
     /// At this file or address a call of the system failed, for which the system has these words.
     System(&'a str, io::Error),

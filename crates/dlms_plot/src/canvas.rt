@@ -10,7 +10,7 @@ pub const ROWS: usize = 21;
 const MARKS: usize = 1_512;
 
 /// The marks of a curve, the lowest row first.
-#[derive(Clone, Copy, Debug, PartialEq, Eq)]
+#[derive(Clone, Copy, PartialEq, Eq)]
 pub struct Canvas {
     marks: [u8; MARKS],
 }

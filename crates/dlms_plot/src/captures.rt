@@ -3,14 +3,14 @@ ghost use Rattle.std.specs.Prelude.{◌≡◌};
 ghost use Rattle.dlms_plot.specs.Power.{period_of};
 
 /// The value of a register at a second of the clock.
-#[derive(Clone, Copy, Debug, PartialEq, Eq)]
+#[derive(Clone, Copy, PartialEq, Eq)]
 pub struct Sample {
     pub clock: u32,
     pub value: u32,
 }
 
 /// The power from one capture to the next one.
-#[derive(Clone, Copy, Debug, PartialEq, Eq)]
+#[derive(Clone, Copy, PartialEq, Eq)]
 pub struct Period {
     pub from: u32,
     pub to: u32,
@@ -19,7 +19,7 @@ pub struct Period {
 }
 
 /// From one capture to the next one others are missing.
-#[derive(Clone, Copy, Debug, PartialEq, Eq)]
+#[derive(Clone, Copy, PartialEq, Eq)]
 pub struct Gap {
     pub from: u32,
     pub to: u32,

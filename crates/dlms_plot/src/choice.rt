@@ -7,7 +7,7 @@ use dlms_data::LAST_SECOND;
 use dlms_headend::Row;
 
 /// The register that is plotted, and from which second of the clock to which one, both included.
-#[derive(Clone, Copy, Debug, PartialEq, Eq)]
+#[derive(Clone, Copy, PartialEq, Eq)]
 pub struct Choice {
     /// The register. If there is none, it is the first one with different values in the first row and the last one.
     pub quantity: Option<Quantity>,

@@ -6,19 +6,19 @@ use dlms_data::{LAST_SECOND, octets};
 use std::fmt;
 
 /// A second of the clock as a day and a time, as `2000-01-01 00:15:00`; a number past the clock's range stands as such.
-#[derive(Clone, Copy, Debug, PartialEq, Eq)]
+#[derive(Clone, Copy, PartialEq, Eq)]
 pub struct Date(pub u32);
 
 /// The day of a second of the clock, as `2000-01-01`.
-#[derive(Clone, Copy, Debug, PartialEq, Eq)]
+#[derive(Clone, Copy, PartialEq, Eq)]
 pub struct Day(pub u32);
 
 /// The minute of a second of the clock within its day, as `00:15`; nothing past the clock's range.
-#[derive(Clone, Copy, Debug, PartialEq, Eq)]
+#[derive(Clone, Copy, PartialEq, Eq)]
 pub struct Minute(pub u32);
 
 /// A second of the clock as a day and a time of ISO 8601, as `2000-01-01T00:15:00`; a number past the clock's range as such.
-#[derive(Clone, Copy, Debug, PartialEq, Eq)]
+#[derive(Clone, Copy, PartialEq, Eq)]
 pub struct Iso(pub u32);
 
 /// The date-time of a second of the clock, counted from 2000-01-01 00:00:00. None past the clock's range.

@@ -5,7 +5,7 @@ ghost use Rattle.dlms_plot.specs.Quantity.{quantity_at};
 use std::fmt;
 
 /// The quantity that a register counts.
-#[derive(Clone, Copy, Debug, PartialEq, Eq)]
+#[derive(Clone, Copy, PartialEq, Eq)]
 pub enum Quantity {
     /// Active energy that the meter's owner took, in watt-hours.
     Import,
@@ -89,7 +89,7 @@ impl Quantity {
 }
 
 /// A number of thousandths, as `1.500`.
-#[derive(Clone, Copy, Debug, PartialEq, Eq)]
+#[derive(Clone, Copy, PartialEq, Eq)]
 pub struct Thousandth(pub u64);
 
 impl fmt::Display for Thousandth {

@@ -19,7 +19,7 @@ use std::io;
 use std::io::Write;
 
 /// As what a curve is written.
-#[derive(Clone, Copy, Debug, PartialEq, Eq)]
+#[derive(Clone, Copy, PartialEq, Eq)]
 pub enum Form {
     /// Plain text.
     Text,

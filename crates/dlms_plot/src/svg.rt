@@ -50,7 +50,7 @@ text{fill:#dddddd}
 ";
 
 /// A length in tenths, as `12.5`.
-#[derive(Clone, Copy, Debug, PartialEq, Eq)]
+#[derive(Clone, Copy, PartialEq, Eq)]
 struct Tenths(u64);
 
 impl fmt::Display for Tenths {
@@ -62,7 +62,7 @@ impl fmt::Display for Tenths {
 }
 
 /// How seconds and powers become places.
-#[derive(Clone, Copy, Debug, PartialEq, Eq)]
+#[derive(Clone, Copy, PartialEq, Eq)]
 struct Plane {
     begin: u32,
     span: u32,

@@ -100,7 +100,8 @@ pub data KnowsEach (aim : Aim) (old : Option (List Moment)) (seen : Option (List
       → KnowsEach aim old seen (front ++ one ∷ []) new after
 
 -- the texts before this one are shown so
-pub record KnowsFront (aim : Aim) (old mid : Option (List Moment)) (seen before : Option (List Sight))
+pub record KnowsFront (aim : Aim) (old mid : Option (List Moment)) (seen before : Option
+    (List Sight))
     (one : Expected) : Type 0 where
   pub front : List Expected
   pub rest : List Expected

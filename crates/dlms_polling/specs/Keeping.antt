@@ -17,7 +17,8 @@ use Rattle.dlms_lines.specs.Faults.{IsOther, IsSystemAt}
 use Rattle.dlms_lines.specs.declared.fault.FieldFault.{FieldFault}
 
 -- The file is held, if one is given; or that failed.
-abbrev pub HoldsFile : {T : Type 0} → Option (List ℕ) → Option (List PlaceCall) → Option (List PlaceCall)
+abbrev pub HoldsFile : {T : Type 0} → Option (List ℕ) → Option (List PlaceCall)
+    → Option (List PlaceCall)
     → Result T FieldFault → Type 0
 HoldsFile None asked asked' result = Asks asked asked' [] × IsOk result
 HoldsFile (Some file) asked asked' (Ok done) = Asks asked asked' (Holds file None ∷ [])

@@ -11,7 +11,7 @@ const YEAR_2000: u64 = 946_684_800;
 
 /// How far a row may be past a second of the system's clock. The meter's clock counts its own seconds from 2000-01-01 00:00:00,
 /// and is taken for UTC.
-#[derive(Clone, Copy, Debug, PartialEq, Eq)]
+#[derive(Clone, Copy, PartialEq, Eq)]
 pub struct Limit {
     /// The second of the system's clock, counted from 1970-01-01 00:00:00 UTC.
     pub now: u64,

@@ -10,7 +10,7 @@ use dlms_ends::{PollEnd, RunFault};
 use dlms_secured::Guard;
 
 /// What the guard of an association has accepted from the meter.
-#[derive(Clone, Copy, Debug)]
+#[derive(Clone, Copy)]
 pub struct Accepted {
     /// The meter's system title; none before the meter sent it.
     pub title: Option<[u8; 8]>,
@@ -74,7 +74,7 @@ pub trait Guards {
 }
 
 /// No guards, for polls in clear. A protected association is not begun with these.
-#[derive(Clone, Copy, Debug)]
+#[derive(Clone, Copy)]
 pub struct NoGuards;
 
 impl Guards for NoGuards {

@@ -29,7 +29,7 @@ use std::net::Net;
 use std::time::Clock;
 
 /// The meter to poll, the file, and the client that asks.
-#[derive(Clone, Copy, Debug)]
+#[derive(Clone, Copy)]
 pub struct Polling<'a, 'e> {
     /// The meter's address and port, or the device of its serial line.
     pub address: &'a str,

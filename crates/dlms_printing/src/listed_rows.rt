@@ -11,7 +11,7 @@ const LONG_COUNT: u8 = 0x80;
 const MOST_COUNT_OCTETS: usize = 4;
 
 /// What a buffer is, by its first octets.
-#[derive(Clone, Copy, Debug, PartialEq, Eq)]
+#[derive(Clone, Copy, PartialEq, Eq)]
 enum Kind {
     Unknown,
     Array,

@@ -16,7 +16,7 @@ const PART_WIDTH: usize = 32;
 
 /// How an object list is printed: a line an object in columns; a line for each attribute and method, with its name and the values that
 /// can be read; or as JSON, without values or with them.
-#[derive(Clone, Copy, Debug, PartialEq, Eq)]
+#[derive(Clone, Copy, PartialEq, Eq)]
 pub enum ListForm {
     Columns,
     Long,

@@ -6,7 +6,7 @@ use std::io::Write;
 use std::time::{Clock, Duration, Instant};
 
 /// What is shown of the progress.
-#[derive(Clone, Copy, Debug, PartialEq, Eq)]
+#[derive(Clone, Copy, PartialEq, Eq)]
 pub enum Showing {
     Nothing,
     /// A line at the end.

@@ -10,7 +10,7 @@ use crate::streams::{Source, is_interrupted};
 use arrayvec::ArrayVec;
 
 /// The outcome of reading a line.
-#[derive(Clone, Copy, Debug, PartialEq, Eq)]
+#[derive(Clone, Copy, PartialEq, Eq)]
 pub enum Taken {
     /// No byte was left.
     End,

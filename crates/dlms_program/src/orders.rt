@@ -7,7 +7,7 @@ use crate::pairs::Pairs;
 use dlms_words::number;
 
 /// The order of a line.
-#[derive(Clone, Copy, Debug, PartialEq, Eq)]
+#[derive(Clone, Copy, PartialEq, Eq)]
 pub enum Order {
     /// An empty line or a comment.
     Skip,

@@ -9,7 +9,7 @@ use memchr::memchr;
 pub const MOST_BYTES: usize = 8192;
 
 /// The outcome of reading a piece of a line.
-#[derive(Clone, Copy, Debug, PartialEq, Eq)]
+#[derive(Clone, Copy, PartialEq, Eq)]
 pub enum Piece {
     /// No byte was left.
     End,

@@ -261,7 +261,8 @@ abbrev pub behind_telling : TurnState → TurnState
 behind_telling state =
     record state { turn = record state.turn { tries = record state.turn.tries { is_proved = false } } }
 
-abbrev pub TellsOnce : Option (List Sight) → Option (List Sight) → TurnState → ℕ → TurnState → Type 0
+abbrev pub TellsOnce : Option (List Sight) → Option (List Sight) → TurnState → ℕ → TurnState
+    → Type 0
 TellsOnce seen seen' state now state' = Sees seen seen' (told_of state now)
     × (state' ≡ behind_telling state)
 
@@ -272,7 +273,8 @@ pub record Checks {P A : Type 0} {ghosts : Ghosts P} (rules : Rules) (s : At P A
   pub associated : Bool
   pub has : IsTrue associated ↔ HasAssociation after.meter
   pub state : TurnState
-  pub turn_after_bytes : state ≡ record s.state { turn = turn_after_bytes s.state.turn is_answered now associated }
+  pub turn_after_bytes : state
+      ≡ record s.state { turn = turn_after_bytes s.state.turn is_answered now associated }
   pub asked_for : List Sight
   pub asks : AsksFor (behind_telling state) now asked_for after.state.turn
   pub all : sights ≡ told_of state now ++ asked_for
@@ -370,7 +372,8 @@ pub data Ends {P A : Type 0} {ghosts : Ghosts P} (rules : Rules)
   IsOver : (moments : List Moment) (is_answered : Bool) (given : At P A ghosts) (now : ℕ)
       (sights : List Sight) (after : At P A ghosts) (why : Why)
       → Arrives rules.carrier s moments is_answered given
-      → Checks rules given is_answered now sights after → Tells rules after.state.turn now (Some why)
+      → Checks rules given is_answered now sights after
+      → Tells rules after.state.turn now (Some why)
       → Ends rules s (Ok (Over why)) moments (Second (Some now) ∷ sights) (timed_of after)
   LookEnds : (moments : List Moment) (is_answered : Bool) (given : At P A ghosts)
       (fault : RunFault) (sights : List Sight) (new : Timed P A ghosts)

@@ -1,7 +1,7 @@
 //! What brings the APDUs of a connection.
 
 /// The carrier of a connection's APDUs.
-#[derive(Clone, Copy, Debug, PartialEq, Eq)]
+#[derive(Clone, Copy, PartialEq, Eq)]
 pub enum Carrier {
     /// HDLC frames (IEC 62056-46).
     Hdlc,

@@ -35,7 +35,7 @@ pub const MOST_MARKS: usize = 1_024;
 pub const MOST_PROOFS: usize = 32;
 
 /// Where connections come from, as far as it counts.
-#[derive(Clone, Copy, Debug, PartialEq, Eq)]
+#[derive(Clone, Copy, PartialEq, Eq)]
 pub enum Origin {
     /// An address of IPv4, also one that is mapped to IPv6.
     Four(u32),
@@ -84,7 +84,7 @@ impl Origin {
 }
 
 /// The last refusal of an address, and the seconds that it waits after that.
-#[derive(Clone, Copy, Debug)]
+#[derive(Clone, Copy)]
 pub struct Mark {
     pub origin: Origin,
     pub last: u64,
@@ -92,7 +92,7 @@ pub struct Mark {
 }
 
 /// When an address proved a secret last.
-#[derive(Clone, Copy, Debug)]
+#[derive(Clone, Copy)]
 pub struct Proof {
     pub origin: Origin,
     pub last: u64,

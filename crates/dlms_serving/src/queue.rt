@@ -10,7 +10,7 @@ use crate::turns::have_passed;
 pub const MOST_WAITING: usize = 256;
 
 /// Where a connection stands among those that wait.
-#[derive(Clone, Copy, Debug)]
+#[derive(Clone, Copy)]
 pub struct Place {
     pub origin: Origin,
     /// Since when it waits.

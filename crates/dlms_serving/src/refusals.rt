@@ -19,7 +19,7 @@ const FIELD: usize = 16;
 const RESULT: [u8; 4] = [0xa2, 0x03, 0x02, 0x01];
 
 /// The outcome of an association that was asked for.
-#[derive(Clone, Copy, Debug, PartialEq, Eq)]
+#[derive(Clone, Copy, PartialEq, Eq)]
 pub enum Outcome {
     /// It is refused.
     Refused,

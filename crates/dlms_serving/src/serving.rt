@@ -33,7 +33,7 @@ use std::time::{Clock, Instant};
 const PASSING: [i32; 13] = [71, 92, 95, 100, 101, 64, 112, 113, 1, 23, 24, 105, 12];
 
 /// How a meter is served.
-#[derive(Clone, Copy, Debug)]
+#[derive(Clone, Copy)]
 pub struct Serving<'a> {
     /// The address and port to listen on; for port 0 the system chooses one. For a serial line its device.
     pub address: &'a str,
@@ -157,7 +157,8 @@ fn close<W: Watch + Drop, E: Write>(
     address: SocketAddr,
     ending: Ending,
 ) -> Result<(), RunFault>
-    ensures closes { Closes address ending (W.seen server.old.watch) (W.seen server.new.watch) result }
+    ensures closes { Closes address ending (W.seen server.old.watch)
+        (W.seen server.new.watch) result }
     ensures ticks { server.new.ticks ≡ server.old.ticks }
 {
     ban(&mut server.watch, address, ending)?;
@@ -174,7 +175,8 @@ fn serve_one<W: Watch + Drop, P: Pages, E: Write>(
     meter: &mut Meter<P>,
     peer: Peer<W::Stream>,
 ) -> Result<(), RunFault>
-    ensures serves { ServesOne rules peer.address (W.seen server.old.watch) (W.seen server.new.watch)
+    ensures serves { ServesOne rules peer.address (W.seen server.old.watch)
+        (W.seen server.new.watch)
         (timed meter.old server.old.ticks) result (timed meter.new server.new.ticks) }
     ensures calls { Made rules.carrier meter.old meter.new }
 {

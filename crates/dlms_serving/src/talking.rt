@@ -25,7 +25,7 @@ use std::io;
 use std::io::{ErrorKind, Write};
 
 /// By which rules a meter serves.
-#[derive(Clone, Copy, Debug)]
+#[derive(Clone, Copy)]
 pub struct Rules {
     /// The meter gets the seconds of the clock in steps of this many.
     pub tick: u32,
@@ -38,7 +38,7 @@ pub struct Rules {
 }
 
 /// How a connection ended.
-#[derive(Clone, Copy, Debug)]
+#[derive(Clone, Copy)]
 pub enum Ending {
     /// The client closed it.
     Closed,

@@ -7,7 +7,7 @@ ghost use Rattle.dlms_serving.specs.Load.{pulses_after};
 const HOUR: u64 = 3_600;
 
 /// How far a meter has been told of the seconds of a steady clock.
-#[derive(Clone, Copy, Debug, PartialEq, Eq)]
+#[derive(Clone, Copy, PartialEq, Eq)]
 pub struct Ticks {
     /// The running second at which the clock began.
     pub first: u32,
@@ -20,7 +20,7 @@ pub struct Ticks {
 }
 
 /// What one second brings.
-#[derive(Clone, Copy, Debug, PartialEq, Eq)]
+#[derive(Clone, Copy, PartialEq, Eq)]
 pub struct Second {
     /// The meter's running second.
     pub moment: u32,

@@ -14,7 +14,7 @@ pub const PORT_REFUSALS: u8 = 1;
 pub const LINE_REFUSALS: u8 = 5;
 
 /// After how many seconds a turn is over.
-#[derive(Clone, Copy, Debug, PartialEq, Eq)]
+#[derive(Clone, Copy, PartialEq, Eq)]
 pub struct Times {
     /// A connection on which no frame was answered for this many seconds is closed.
     pub inactivity: u32,
@@ -25,7 +25,7 @@ pub struct Times {
 }
 
 /// The outcomes of the associations that were asked for in a turn.
-#[derive(Clone, Copy, Debug, PartialEq, Eq)]
+#[derive(Clone, Copy, PartialEq, Eq)]
 pub struct Tries {
     /// How many were refused.
     pub refusals: u8,
@@ -34,7 +34,7 @@ pub struct Tries {
 }
 
 /// The events of a connection's turn, in seconds of the clock.
-#[derive(Clone, Copy, Debug, PartialEq, Eq)]
+#[derive(Clone, Copy, PartialEq, Eq)]
 pub struct Turn {
     /// When a frame was last answered; initially when the turn began.
     pub answered: u64,
@@ -47,7 +47,7 @@ pub struct Turn {
 }
 
 /// Why a turn is over.
-#[derive(Clone, Copy, Debug, PartialEq, Eq)]
+#[derive(Clone, Copy, PartialEq, Eq)]
 pub enum Over {
     /// So many association requests were refused.
     Refused,

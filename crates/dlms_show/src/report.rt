@@ -16,7 +16,7 @@ use std::io;
 use std::io::Write;
 
 /// Whether the load profile's curve is drawn too.
-#[derive(Clone, Copy, Debug, PartialEq, Eq)]
+#[derive(Clone, Copy, PartialEq, Eq)]
 pub enum Curve {
     /// It is not.
     None,

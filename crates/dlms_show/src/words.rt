@@ -5,15 +5,15 @@ use dlms_state::{Event, SecretOf};
 use std::fmt;
 
 /// A text in quotes: bytes that are no plain characters are written as hexadecimal digits, as in `\x0a`.
-#[derive(Clone, Copy, Debug)]
+#[derive(Clone, Copy)]
 pub struct Quoted<'a>(pub &'a [u8]);
 
 /// The names of columns, by their ids.
-#[derive(Clone, Copy, Debug)]
+#[derive(Clone, Copy)]
 pub struct Columns<'a>(pub &'a [u8]);
 
 /// An event as words. Of a secret only its client is shown.
-#[derive(Clone, Copy, Debug)]
+#[derive(Clone, Copy)]
 pub struct Words<'a>(pub &'a Event);
 
 /// The name of a column.

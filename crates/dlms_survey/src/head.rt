@@ -8,7 +8,7 @@ use dlms_journal::{
 };
 
 /// The content of the head of a page.
-#[derive(Clone, Copy, Debug, PartialEq, Eq)]
+#[derive(Clone, Copy, PartialEq, Eq)]
 pub struct Head {
     /// The kind of the page; none if the number is unknown.
     pub kind: Option<PageKind>,

@@ -219,7 +219,7 @@ fn records_reason<A: Allocator + Copy>(state: &State<A>, payload: &[u8]) -> Verd
 }
 
 /// The ring pages that a checkpoint names, by their numbers: from the first one up to the one after the last.
-#[derive(Clone, Copy, Debug, PartialEq, Eq)]
+#[derive(Clone, Copy, PartialEq, Eq)]
 struct Named {
     first: u64,
     behind: u64,

@@ -6,7 +6,7 @@ use dlms_store::{JOURNAL, RING, Slot};
 use std::fmt;
 
 /// The purpose of a page's place.
-#[derive(Clone, Copy, Debug, PartialEq, Eq)]
+#[derive(Clone, Copy, PartialEq, Eq)]
 pub enum Place {
     /// The gate of a slot.
     Gate(Slot),

@@ -10,7 +10,7 @@ use dlms_store::{Edition, Found, OpenFault, Slot, active, find, open_edition};
 use std::alloc::{AllocError, Allocator, Global};
 
 /// The action of a recovery.
-#[derive(Clone, Copy, Debug, PartialEq, Eq)]
+#[derive(Clone, Copy, PartialEq, Eq)]
 pub enum Recovery {
     /// It would open the store, and write nothing.
     Nothing,

@@ -6,7 +6,7 @@ use dlms_state::Refused;
 use std::fmt;
 
 /// Whether a page serves a recovery, and why not.
-#[derive(Clone, Copy, Debug, PartialEq, Eq)]
+#[derive(Clone, Copy, PartialEq, Eq)]
 pub enum Verdict {
     /// The file ends before the page does.
     Cut,
