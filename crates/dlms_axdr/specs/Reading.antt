@@ -24,7 +24,7 @@ IsFault NoTag read = read ≡ Err no_type
 IsFault Length read = read ≡ Err no_length
 IsFault Depth read = read ≡ Err too_deep
 
--- Where it may have found none: then what is read, if it can be read, needs some.
+-- The same for a function that may run out of memory: then what is read, if it can be read, needs some.
 abbrev pub Fails : {Y : Type 0} → (Y → Type 0) → DataFault → Result Y Fault → Type 0
 Fails needs Memory read = IfOk read needs
 Fails needs Short read = read ≡ Err short
@@ -56,7 +56,7 @@ abbrev pub Answers : {X Y : Type 0} → (X → Y) → (Y → Type 0) → Result 
 Answers view needs (Ok x) read = read ≡ Ok (view x)
 Answers view needs (Err e) read = Wants needs e read
 
--- the bytes after what was read
+-- the bytes that follow what was read
 abbrev pub behind : {Y : Type 0} → Result (Y × List ℕ) Fault → Result (List ℕ) Fault
 behind (Ok x) = Ok x.1
 behind (Err e) = Err e

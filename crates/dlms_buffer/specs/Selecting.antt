@@ -14,9 +14,9 @@ range clock from to =
     structure (cons (restricting_object clock) (cons (octet_string from) (cons (octet_string to)
     (cons (array none) none))))
 
--- entry_descriptor: the first entry; 0 for the last one there is; the first column; 0 for the last one there is
-abbrev pub entries : ℕ → Value
-entries from =
-    structure (cons (double_long_unsigned from) (cons (double_long_unsigned 0) (cons
+-- entry_descriptor: the first entry and the last one, or 0 for the last one there is; the first column, and 0 for the last one there is
+abbrev pub entries : ℕ → ℕ → Value
+entries from to =
+    structure (cons (double_long_unsigned from) (cons (double_long_unsigned to) (cons
     (long_unsigned 1)
     (cons (long_unsigned 0) none))))

@@ -18,5 +18,5 @@ pub use column::{Column, column_of};
 pub use fault::BufferFault;
 pub use last_row::LastRow;
 pub use packed::packed_row;
-pub use selecting::{by_range, first_of_last, from_entry};
+pub use selecting::{by_entries, by_range, first_of_last};
 pub use text::{append_octets, append_value};

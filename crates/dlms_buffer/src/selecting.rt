@@ -40,14 +40,18 @@ pub fn by_range<A: Allocator + Copy>(
     Ok(Selector { number: 1, value })
 }
 
-/// The rows from an entry to the last one: all columns (selector 2, entry_descriptor). The oldest is entry 1.
-pub fn from_entry<A: Allocator + Copy>(alloc: A, entry: u32) -> Result<Selector<A>, AllocError>
-    ensures { IfOk result (λ s. (s.number ≡ 2) × (value_of s.value ≡ entries entry)) }
+/// The rows from one entry to another: all columns (selector 2, entry_descriptor). The oldest is entry 1, and 0 means the last one.
+pub fn by_entries<A: Allocator + Copy>(
+    alloc: A,
+    from: u32,
+    to: u32,
+) -> Result<Selector<A>, AllocError>
+    ensures { IfOk result (λ s. (s.number ≡ 2) × (value_of s.value ≡ entries from to)) }
 {
     let value = Data::Structure(four(
         alloc,
-        Data::DoubleLongUnsigned(entry),
-        Data::DoubleLongUnsigned(0),
+        Data::DoubleLongUnsigned(from),
+        Data::DoubleLongUnsigned(to),
         Data::LongUnsigned(1),
         Data::LongUnsigned(0),
     )?);

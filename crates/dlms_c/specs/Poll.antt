@@ -37,11 +37,12 @@ abbrev pub columns_of : Bool → ColumnsChoice
 columns_of true = Asked
 columns_of false = Trusted
 
--- the plan has exactly this client, secret, second and columns
+-- the plan has exactly this client, secret, second and columns, and no last second
 pub record IsPlanOf (asked : PollPlan) (secret : List ℕ) (plan : PlanValue) : Type 0 where
   pub client : client_of asked.client ≡ Some plan.client
   pub knows : plan.secret ≡ secret
   pub after : plan.after ≡ after_of asked
+  pub until : plan.until ≡ None
   pub columns : plan.columns ≡ columns_of asked.asks_columns
 
 -- the poll of a plan, not begun; no octet has come

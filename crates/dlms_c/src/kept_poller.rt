@@ -1,6 +1,6 @@
 //! A poller, and the frames that it finds in octets.
+ghost use Rattle.dlms_headend.specs.Asking.{AreSeconds};
 ghost use Rattle.std.specs.Prelude.{◌≡◌, ◌≤◌, ℕ, List, None, Some, IfNone, IfSome, IsSome, length, take};
-ghost use Rattle.dlms_data.specs.declared.date_time.TheConstants.{LAST_SECOND};
 ghost use Rattle.dlms_frame.specs.Frame.{Parts};
 ghost use Rattle.dlms_frame.specs.Stream.{Takes};
 ghost use Rattle.dlms_headend.specs.PollerValue.{plan_of as value_of};
@@ -21,7 +21,7 @@ pub struct KeptPoller {
 impl KeptPoller {
     /// The poll of this plan, not begun.
     pub fn new(alloc: Global, plan: Plan) -> KeptPoller
-        requires { IfSome plan.after (λ second. second ≤ LAST_SECOND) }
+        requires { AreSeconds plan.after plan.until }
         ensures { IsFresh (value_of plan) result }
     {
         KeptPoller {

@@ -1,4 +1,5 @@
 //! A poll of a meter, as C keeps it.
+ghost use Rattle.dlms_headend.specs.Asking.{AreSeconds};
 ghost use Rattle.std.specs.Prelude.{◌≡◌, ◌≤◌, None, Some, ◌<◌, IfNone, IfSome, MatchOption, Option, length, take};
 ghost use Rattle.dlms_data.specs.declared.date_time.TheConstants.{LAST_SECOND};
 ghost use Rattle.dlms_frame.specs.declared.frame.TheConstants.{MOST_TEXT};
@@ -53,7 +54,7 @@ fn plan_of(plan: &PollPlan, secret: &[u8]) -> Option<Plan>
     ensures none { IfNone result (CanPoll plan.now secret.now → ⊥) }
     ensures some { IfSome result (λ made. CanPoll plan.now secret.now) }
     ensures plan { IfSome result (λ made. IsPlanOf plan.now secret.now (value_of made)) }
-    ensures second { IfSome result (λ made. IfSome made.after (λ second. second ≤ LAST_SECOND)) }
+    ensures seconds { IfSome result (λ made. AreSeconds made.after made.until) }
 {
     let client = Client::of_sap(plan.client)?;
     let mut octets = ArrayVec::new();
@@ -67,6 +68,7 @@ fn plan_of(plan: &PollPlan, secret: &[u8]) -> Option<Plan>
         client,
         secret: octets,
         after: plan.has_after.then_some(plan.after),
+        until: None,
         columns: if plan.asks_columns {
             Columns::Asked
         } else {

@@ -1,4 +1,4 @@
-//! Reads octets and bits behind their length, into memory.
+//! Reads octets and bits, which their length precedes, into memory.
 
 ghost use Rattle.dlms_axdr.specs.Reading.{Gives, octets_at};
 ghost use Rattle.dlms_data.specs.Memory.{HasSome};

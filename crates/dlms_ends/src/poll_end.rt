@@ -1,7 +1,7 @@
 //! A poll over a carrier at one end of a line: it reads the octets that arrive, and writes the poll's octets.
+ghost use Rattle.dlms_headend.specs.Asking.{AreSeconds};
 ghost use Rattle.std.specs.Prelude.{◌≡◌, ◌-◌, ◌<◌, ◌≤◌, ◌↔◌, IfErr, IfOk, IfSome, IsTrue, Option, false, length, option_map};
 ghost use Rattle.dlms_carrier.specs.Any.{AnyValue, IsFresh, IsRoute};
-ghost use Rattle.dlms_data.specs.declared.date_time.TheConstants.{LAST_SECOND};
 ghost use Rattle.dlms_carrier.specs.declared.any.Route.{Route as RouteOf};
 ghost use Rattle.dlms_headend.specs.CarrierPollValue.{TermsValue, terms_of};
 ghost use Rattle.dlms_headend.specs.CarrierPolling.{CanBegin, fresh_over};
@@ -15,7 +15,6 @@ use crate::end::{End, Heard, PIECE, bytes_of};
 use crate::fault::RunFault;
 use crate::head_end::MOST_BYTES;
 use dlms_carrier::{AnyCarrier, Route};
-use dlms_data::LAST_SECOND;
 use dlms_headend::{CarrierPoll, PollFault, PollOutcome, PollTerms, Row, list_columns};
 use dlms_secured::{Guard, Secured, SecuredFault};
 use std::alloc::{AllocError, Allocator, Global};
@@ -72,7 +71,7 @@ fn new_poll<A: Allocator + Copy>(
     guard: Option<Box<Guard, A>>,
 ) -> Result<Box<CarrierPoll<Secured<AnyCarrier<A>>, A>, A>, AllocError>
     requires route { IsRoute route }
-    requires after { IfSome terms.after (λ second. second ≤ LAST_SECOND) }
+    requires after { AreSeconds terms.after terms.until }
     ensures { IfOk result (λ made. (carrier : AnyValue) × IsFresh route carrier
         × (made.value ≡ fresh_over
         (record { carrier = carrier; guard = option_map (λ kept. kept.value) guard })
@@ -108,7 +107,7 @@ impl<A: Allocator + Copy> PollEnd<A> {
         guard: Option<Box<Guard, A>>,
     ) -> Result<Self, RunFault>
         requires route { IsRoute route }
-        requires after { IfSome terms.after (λ second. second ≤ LAST_SECOND) }
+        requires after { AreSeconds terms.after terms.until }
         ensures is_new { IfOk result
             (IsNew route (terms_of terms) (option_map (λ kept. kept.value) guard)) }
         ensures can_dial { IfOk result (λ end. CanBegin is_down end.poll) }

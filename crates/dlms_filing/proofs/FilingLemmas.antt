@@ -8,6 +8,7 @@ use Rattle.std.specs.declared.io.Error.{Error}
 use Rattle.dlms_headend.specs.declared.row.Row.{Row}
 use Rattle.dlms_headend.specs.Lines.{field, line, lines, text_of, IsFile}
 use Rattle.dlms_headend.specs.Merged.{added, merged}
+use Rattle.dlms_headend.specs.Rows.{AreReadings}
 use Rattle.dlms_filing.specs.Filing.{PlaceCall, FilesRows, Gives, PutIsPrinted}
 use Rattle.dlms_filing.specs.Filing.PlaceCall.{Drops, Lays, Puts}
 use Rattle.dlms_filing.specs.Printing.{Printed}
@@ -40,10 +41,15 @@ pub text_of-append : (before new : List Row) → text_of (before ++ new) ≡ tex
 text_of-append before new = lines-append before new [] ∙ sym (lines-followed before [] (text_of new))
 
 -- the part of the new text after as many bytes as the old one had
-pub news_are : (before rows : List Row) (first text : List ℕ) → IsFile first before → IsFile text (merged before rows) → drop (length first) text ≡ text_of (added before rows)
-news_are before rows first text old new =
-    let whole : text ≡ text_of before ++ text_of (added before rows) = new.spelled ∙ text_of-append before (added before rows) in
-    ap (drop (length first)) whole ∙ ap (λ t. drop (length t) (text_of before ++ text_of (added before rows))) old.spelled ∙ drop-append_seam (text_of before) (text_of (added before rows))
+pub news_in : (before rows : List Row) (first text : List ℕ) → text ≡ first ++ text_of (added before rows) → drop (length first) text ≡ text_of (added before rows)
+news_in before rows first text whole = ap (drop (length first)) whole ∙ drop-append_seam first (text_of (added before rows))
+
+-- a file to which the lines of the added rows were appended
+pub grown : (before rows after : List Row) (first text : List ℕ) → IsFile first before → after ≡ merged before rows → text ≡ first ++ text_of (added before rows) → AreReadings after → IsFile text after
+grown before rows after first text old same whole readings = record {
+  spelled = whole ∙ ap (λ (t : List ℕ). t ++ text_of (added before rows)) old.spelled ∙ sym (text_of-append before (added before rows)) ∙ ap text_of (sym same);
+  readings = readings;
+}
 
 pub files : {T : Type 0} (old new : Option (List PlaceCall)) (printed printed' : Printed) (before rows after : List Row) (text news : List ℕ) (result : Result T FilingFault)
     → after ≡ merged before rows → IsFile text after → news ≡ text_of (added before rows) → Gives old new printed printed' text news result → FilesRows old new printed printed' before rows result after

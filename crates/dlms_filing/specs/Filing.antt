@@ -3,6 +3,7 @@ use Rattle.std.specs.Prelude.{◌≡◌, ◌⊎◌, ◌<◌, length, ℕ, List, 
 use Rattle.std.specs.declared.io.Error.{Error}
 use Rattle.dlms_headend.specs.Lines.{IsFile, Refuses, text_of}
 use Rattle.dlms_headend.specs.Merged.{added, merged}
+use Rattle.dlms_headend.specs.Rows.{AreReadings}
 use Rattle.dlms_headend.specs.declared.row.Row.{Row}
 use Rattle.dlms_filing.specs.Printing.{Printed, Prints, PrintsNothing, PrintsPart}
 use Rattle.dlms_filing.specs.declared.filing.FilingFault.{FilingFault}
@@ -63,6 +64,15 @@ MergesInto before rows (Ok text) after = (after ≡ merged before rows)
 MergesInto before rows (Err Memory) after = WantsMemory before rows after
 MergesInto before rows (Err Output) after = ⊥
 MergesInto before rows (Err (Place e)) after = ⊥
+
+-- The rows were merged into these readings, and the lines of those that were added were appended to a text; or memory ran out.
+abbrev pub AddsRows : {T : Type 0} → (first : List ℕ) → (before rows : List Row) → Result T FilingFault
+    → (text : List ℕ) → (after : List Row) → Type 0
+AddsRows first before rows (Ok done) text after = (after ≡ merged before rows)
+    × (text ≡ first ++ text_of (added before rows)) × AreReadings after
+AddsRows first before rows (Err Memory) text after = WantsMemory before rows after
+AddsRows first before rows (Err Output) text after = ⊥
+AddsRows first before rows (Err (Place e)) text after = ⊥
 
 -- The rows were merged into these readings, and the text of the result was put in its place. Where memory ran out nothing was asked
 -- of the place.

@@ -2,7 +2,7 @@
 ghost use Rattle.std.specs.Prelude.{◌≡◌, ◌<◌, List, ℕ, Option, None, [], ◌∷◌, drop, length, string_bytes, OnErr, OnOk};
 ghost use Rattle.dlms_headend.specs.Merged.{added, merged};
 ghost use Rattle.dlms_headend.specs.Rows.{AreReadings};
-ghost use Rattle.dlms_filing.specs.Filing.{PlaceCall, Asks, KeepsRows, FilesRows, MergesInto, OpensRows, Gives, IsPut, error_in, text_in};
+ghost use Rattle.dlms_filing.specs.Filing.{AddsRows, PlaceCall, Asks, KeepsRows, FilesRows, MergesInto, OpensRows, Gives, IsPut, error_in, text_in};
 ghost use Rattle.dlms_filing.specs.Filing.PlaceCall.{Holds, Opens, Lays, Puts, Drops};
 ghost use Rattle.dlms_filing.specs.declared.filing.FilingFault.TheVariants.{Memory as MemoryOf};
 
@@ -159,6 +159,17 @@ pub fn bytes_behind(bytes: &[u8], count: usize) -> &[u8]
     bytes.get(count..).unwrap_or(&[])
 }
 
+/// Merges rows into the readings, and appends the lines of the new ones to a text. If memory runs out, the rows may have been merged.
+fn add_rows(text: &mut String, readings: &mut Readings, rows: &[Row]) -> Result<(), FilingFault>
+    requires { AreReadings rows.now }
+    ensures { AddsRows (string_bytes text.old) readings.old rows.now result (string_bytes text.new) readings.new }
+{
+    let before = readings.rows().len();
+    let _count = merge(readings, rows)?;
+    readings.append_text(text, before)?;
+    Ok(())
+}
+
 /// Merges the rows of a finished poll into the readings, prints the lines of the new ones, and puts the text in the place of the
 /// present one. A row is printed before its text is put there: after a stop or an error each row in the place has been printed, and
 /// a row that was printed and is not in the place comes again.
@@ -172,8 +183,9 @@ pub fn file_rows<F: Filing, O: Output>(
     ensures { FilesRows (F.asked place.old) (F.asked place.new) (O.printed output.old)
         (O.printed output.new) readings.old rows.now result readings.new }
 {
-    let before = readings.text()?.len();
-    let text = merged_text(readings, rows)?;
+    let mut text = readings.text()?;
+    let before = text.len();
+    add_rows(&mut text, readings, rows)?;
     let news = bytes_behind(text.as_bytes(), before);
     give(place, text.as_str(), news, output)
 }

@@ -9,7 +9,7 @@ ghost use Rattle.dlms_filing.specs.System.SystemCall.{Checks, Creates, Draws, Gi
 use dlms_pages::{LockFile, refuse_standard, sync_folder};
 use std::alloc::Global;
 use std::fs::{File, Files, Metadata, OpenOptions, Permissions};
-use std::io::{Read, Write};
+use std::io::{ErrorKind, Read, Write};
 use std::os::fd::{AsFd, AsRawFd};
 use std::os::unix::fs::{MetadataExt, OpenOptionsExt, PermissionsExt, fchown};
 use std::{fs, io};
@@ -62,7 +62,8 @@ pub trait System {
     fn check(&mut self, file: &Self::File) -> io::Result<()>
         ensures { Called (made self.old) (made self.new) (Checks file.now (error_in result) ∷ []) };
 
-    /// Takes the lock of a file, and does not wait for it: flock(2).
+    /// Takes the lock of a file, and does not wait for it: flock(2). A file without a name is refused: whoever held its lock removed
+    /// it, and another file may have its name now.
     fn lock(&mut self, file: &Self::File) -> io::Result<()>
         ensures { Called (made self.old) (made self.new) (Locks file.now (error_in result) ∷ []) };
 
@@ -180,7 +181,11 @@ impl<R: Files<File = File> + AllocGlobal> System for HostSystem<'_, R> {
     }
 
     fn lock(&mut self, file: &File) -> io::Result<()> {
-        file.lock_alone()
+        file.lock_alone()?;
+        if file.metadata()?.nlink() == 0 {
+            return Err(io::Error::new(ErrorKind::WouldBlock, "in use by another program"));
+        }
+        Ok(())
     }
 
     fn text(&mut self, path: &str) -> io::Result<String> {

@@ -68,12 +68,12 @@ module _ {C : Type 0} (steps : StepsOf C) (p new : CarrierPollValue C) (talk : T
 -- ---- what goes out
 
 pub asked_next : {C : Type 0} (steps : StepsOf C) (p new : CarrierPollValue C) (request : List ℕ) (event : Event) (carrier : C) (result : Result PollOutcome PollFault) (apdus : List (List ℕ)) → FitsTalk p.terms.columns p.talk apdus
-    → IsDueAt (requests_of p.terms).association p.terms.after p.talk.stage request → steps p.carrier (Give request) event carrier → result ≡ Ok outcome.Nothing → new ≡ record p { carrier = carrier } → GoesOn steps p apdus result new
+    → IsDueAt (requests_of p.terms).association p.terms.after p.terms.until p.talk.stage request → steps p.carrier (Give request) event carrier → result ≡ Ok outcome.Nothing → new ≡ record p { carrier = carrier } → GoesOn steps p apdus result new
 asked_next steps p new request event carrier result apdus fits due gives e after = inl (record {
   request = request;
   event = event;
   carrier = carrier;
-  awaits = due_awaits (requests_of p.terms).association p.terms.after p.talk.stage request due;
+  awaits = due_awaits (requests_of p.terms).association p.terms.after p.terms.until p.talk.stage request due;
   asks = due_asks (requests_of p.terms) apdus p.talk.stage p.talk.blocks p.talk.rows request fits due;
   gives = gives;
   answer = e;

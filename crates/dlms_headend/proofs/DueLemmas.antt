@@ -12,11 +12,11 @@ use Rattle.dlms_headend.specs.declared.row.Row.{Row}
 use Rattle.dlms_headend.specs.declared.stage.Stage.{Stage}
 use Rattle.dlms_headend.specs.declared.stage.Stage.TheVariants.{Associating, Naming, Getting, Checking, Releasing, Leaving}
 
-next_get : (r : Requests) (apdus : List (List ℕ)) (taken : ℕ) (blocks : Joining) (rows : List Row) (request : List ℕ) → FitsAt r.columns (Getting taken) blocks rows apdus → IsNextGet r.after taken request → AsksFor r apdus request
+next_get : (r : Requests) (apdus : List (List ℕ)) (taken : ℕ) (blocks : Joining) (rows : List Row) (request : List ℕ) → FitsAt r.columns (Getting taken) blocks rows apdus → IsNextGet r.after r.until taken request → AsksFor r apdus request
 next_get r apdus taken blocks rows request h (inl x) = Gets blocks.joined (rw x.0 at h.0) x.1
 next_get r apdus taken blocks rows request h (inr x) = GetsBlock taken blocks.joined x.0 h.0 x.1
 
-pub due_asks : (r : Requests) (apdus : List (List ℕ)) (stage : Stage) (blocks : Joining) (rows : List Row) (request : List ℕ) → FitsAt r.columns stage blocks rows apdus → IsDueAt r.association r.after stage request → AsksFor r apdus request
+pub due_asks : (r : Requests) (apdus : List (List ℕ)) (stage : Stage) (blocks : Joining) (rows : List Row) (request : List ℕ) → FitsAt r.columns stage blocks rows apdus → IsDueAt r.association r.after r.until stage request → AsksFor r apdus request
 due_asks r apdus Associating blocks rows request h is = Associates h.0 is
 due_asks r apdus Naming blocks rows request h is = Names h.0 h.1 is
 due_asks r apdus (Getting taken) blocks rows request h is = next_get r apdus taken blocks rows request h is
@@ -24,13 +24,13 @@ due_asks r apdus Checking blocks rows request h is = Checks rows h.0 h.1 is
 due_asks r apdus Releasing blocks rows request h is = Releases rows h is
 due_asks r apdus Leaving blocks rows request h is = absurd is
 
-pub due_awaits : (association : List ℕ) (after : Option ℕ) (stage : Stage) (request : List ℕ) → IsDueAt association after stage request → CanTake stage
-due_awaits association after Associating request is = tt
-due_awaits association after Naming request is = tt
-due_awaits association after (Getting taken) request is = tt
-due_awaits association after Checking request is = tt
-due_awaits association after Releasing request is = tt
-due_awaits association after Leaving request is = absurd is
+pub due_awaits : (association : List ℕ) (after until : Option ℕ) (stage : Stage) (request : List ℕ) → IsDueAt association after until stage request → CanTake stage
+due_awaits association after until Associating request is = tt
+due_awaits association after until Naming request is = tt
+due_awaits association after until (Getting taken) request is = tt
+due_awaits association after until Checking request is = tt
+due_awaits association after until Releasing request is = tt
+due_awaits association after until Leaving request is = absurd is
 
 -- ---- over the client's link
 

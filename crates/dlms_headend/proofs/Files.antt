@@ -179,6 +179,15 @@ pub file_some : (text rest : List ℕ) (kept rows : List Row) → HasKept text k
 file_some text rest kept [] h more is = absurd (omega (arith, left_some kept rest more, ap length (sym h.spelled ∙ is.spelled)))
 file_some text rest kept (row ∷ rows) h more is = omega arith
 
+-- a text of which something is left to be read has octets
+pub text_some : (text rest : List ℕ) (kept : List Row) → HasKept text kept rest → 0 < length rest → 0 < length text
+text_some text rest kept h more = subst (λ (t : List ℕ). 0 < length t) (sym h.spelled) (left_some kept rest more)
+
+-- a file that has octets has rows
+pub rows_some : (text : List ℕ) (rows : List Row) → 0 < length text → IsFile text rows → 0 < length rows
+rows_some text [] more is = absurd (omega (arith, more, ap length is.spelled))
+rows_some text (row ∷ rows) more is = omega arith
+
 -- memory was wanting
 pub wanted : {X : Type 0} (r : Result X ReadingsFault) (P : ReadingsFault → Type 0) → IsErrAnd r (λ fault. fault ≡ Memory) → P Memory → IfErr r P
 wanted (Ok x) P is h = absurd is
@@ -252,3 +261,7 @@ lines-followed (r ∷ rows) rest more = line-append r (lines rows rest) more ∙
 pub text_of_more : (rows : List Row) (i : ℕ) (d : Row) → i < length rows → text_of (take i rows) ++ line (get_or rows i d) [] ≡ text_of (take (i + 1) rows)
 text_of_more rows i d within =
     sym (ap text_of (take_more rows i d within) ∙ lines-append (take i rows) (get_or rows i d ∷ []) [] ∙ sym (lines-followed (take i rows) [] (line (get_or rows i d) [])))
+
+-- the same after other text
+pub text_grows : (first : List ℕ) (rows : List Row) (i : ℕ) (d : Row) → i < length rows → (first ++ text_of (take i rows)) ++ line (get_or rows i d) [] ≡ first ++ text_of (take (i + 1) rows)
+text_grows first rows i d within = append_assoc first (text_of (take i rows)) (line (get_or rows i d) []) ∙ ap (λ (t : List ℕ). first ++ t) (text_of_more rows i d within)

@@ -3,9 +3,8 @@ use Rattle.std.proofs.Common.{arith, ◌≡◌, ◌≤◌, ◌∙◌, ℕ, List,
 use Rattle.dlms_data.specs.Value.{Value, octet_string}
 use Rattle.dlms_data.specs.Writing.{short_length, canonical}
 use Rattle.dlms_data.specs.Building.{IsTime}
-use Rattle.dlms_headend.specs.Asking.{IsBufferRequest, range, buffer_bytes}
+use Rattle.dlms_headend.specs.Asking.{IsBufferRequest, range, buffer_bytes, last_second}
 use Rattle.dlms_headend.specs.declared.asking.TheConstants.{RANGE_HEAD, ALL_COLUMNS}
-use Rattle.dlms_data.specs.declared.date_time.TheConstants.{LAST_SECOND}
 
 -- a date-time as an octet-string
 time_spelled : (before octets : List ℕ) → length octets ≡ 12 → (before ++ (0x09 ∷ 0x0C ∷ [])) ++ octets ≡ before ++ canonical (octet_string octets)
@@ -40,9 +39,9 @@ range_length first last h k = simp (length-append) (omega (arith, h, k))
 buffer_length : (value : Value) → length (canonical value) ≤ 100 → length (buffer_bytes value) ≤ 1024
 buffer_length value h = omega (arith, h)
 
-pub request_is_short : (after : Option ℕ) (apdu : List ℕ) → IsBufferRequest after apdu → length apdu ≤ 1024
-request_is_short after apdu h =
+pub request_is_short : (after until : Option ℕ) (apdu : List ℕ) → IsBufferRequest after until apdu → length apdu ≤ 1024
+request_is_short after until apdu h =
     let wanted = h.wanted in
     let long : length (canonical (range wanted.first wanted.last)) ≤ 100 =
-    range_length wanted.first wanted.last (time_length (unwrap_or after 0) wanted.first wanted.from_first) (time_length LAST_SECOND wanted.last wanted.to_last) in
+    range_length wanted.first wanted.last (time_length (unwrap_or after 0) wanted.first wanted.from_first) (time_length (last_second until) wanted.last wanted.to_last) in
     rw h.is (buffer_length h.value (subst (λ (v : Value). length (canonical v) ≤ 100) (sym wanted.is) long))

@@ -1,7 +1,7 @@
 -- The requests of a poll, in order: the association (IEC 62056-5-3, the establishment of an application association), the columns
 -- of the load profile, if the plan asks for them, its buffer with selective access by range (Blue Book 4.3.6, range_descriptor),
 -- further blocks, the columns again, and the release.
-use Rattle.std.specs.Prelude.{◌≡◌, ℕ, List, [], ◌∷◌, Option, Some, None, unwrap_or}
+use Rattle.std.specs.Prelude.{◌≡◌, ◌≤◌, ℕ, List, [], ◌∷◌, Option, Some, None, IfSome, unwrap_or}
 use Rattle.dlms_frame.specs.declared.client.Client.{Client}
 use Rattle.dlms_data.specs.Building.{IsTime}
 use Rattle.dlms_data.specs.Value.{Value, array, structure, none, cons}
@@ -18,6 +18,7 @@ pub record PlanValue : Type 0 where
   pub client : Client
   pub secret : List ℕ
   pub after : Option ℕ
+  pub until : Option ℕ
   pub columns : Columns
 
 -- the invoke-id-and-priority byte
@@ -43,16 +44,23 @@ columns_bytes = request_bytes (get_normal invoke capture_objects None)
 abbrev pub range : Value → Value → Value
 range first last = structure (cons clock_column (cons first (cons last (cons (array none) none))))
 
--- the rows from a second to the last one of the clock, both included
-pub record IsRange (first_second : ℕ) (value : Value) : Type 0 where
+-- the rows from one second to another, both included
+pub record IsRange (first_second last_second : ℕ) (value : Value) : Type 0 where
   pub first : Value
   pub last : Value
   pub is : value ≡ range first last
   pub from_first : IsTime first_second first
-  pub to_last : IsTime LAST_SECOND last
+  pub to_last : IsTime last_second last
 
 abbrev pub first_second : Option ℕ → ℕ
 first_second after = unwrap_or after 0
+
+abbrev pub last_second : Option ℕ → ℕ
+last_second until = unwrap_or until LAST_SECOND
+
+-- both are seconds of the clock
+abbrev pub AreSeconds : (after until : Option ℕ) → Type 0
+AreSeconds after until = IfSome after (λ second. second ≤ LAST_SECOND) × IfSome until (λ second. second ≤ LAST_SECOND)
 
 abbrev pub buffer_bytes : Value → List ℕ
 buffer_bytes value = request_bytes (get_normal invoke buffer (Some (record {
@@ -60,11 +68,11 @@ buffer_bytes value = request_bytes (get_normal invoke buffer (Some (record {
   value = value;
 })))
 
--- a GET of the buffer with selector 1, from `after` (0 if there is none) to the clock's last second
-pub record IsBufferRequest (after : Option ℕ) (apdu : List ℕ) : Type 0 where
+-- a GET of the buffer with selector 1, from `after` (0 if there is none) to `until` (the clock's last second if there is none)
+pub record IsBufferRequest (after until : Option ℕ) (apdu : List ℕ) : Type 0 where
   pub value : Value
   pub is : apdu ≡ buffer_bytes value
-  pub wanted : IsRange (first_second after) value
+  pub wanted : IsRange (first_second after) (last_second until) value
 
 -- a GET of the block after the one with this number
 abbrev pub next_bytes : ℕ → List ℕ

@@ -9,12 +9,14 @@ use Rattle.dlms_headend.specs.declared.stage.PollCourse.{PollCourse}
 pub record TermsValue : Type 0 where
   pub secret : Option (List ℕ)
   pub after : Option ℕ
+  pub until : Option ℕ
   pub columns : Columns
 
 abbrev pub terms_of : PollTerms → TermsValue
 terms_of terms = record {
   secret = option_map (λ secret. secret.items) terms.secret;
   after = terms.after;
+  until = terms.until;
   columns = terms.columns;
 }
 
@@ -23,6 +25,7 @@ abbrev pub requests_of : TermsValue → Requests
 requests_of terms = record {
   association = association_with terms.secret;
   after = terms.after;
+  until = terms.until;
   columns = terms.columns;
 }
 

@@ -31,26 +31,27 @@ sent_secret client secret = if has_secret client then Some secret else None
 
 -- ---- by the stage of the poll
 
--- the GET of the buffer from this second on, or of its next block after so many
-abbrev pub IsNextGet : Option ℕ → ℕ → List ℕ → Type 0
-IsNextGet after taken apdu = ((taken ≡ 0) × IsBufferRequest after apdu)
+-- the GET of the buffer between these seconds, or of its next block after so many
+abbrev pub IsNextGet : (after until : Option ℕ) → ℕ → List ℕ → Type 0
+IsNextGet after until taken apdu = ((taken ≡ 0) × IsBufferRequest after until apdu)
     ⊎ ((0 < taken) × (apdu ≡ next_bytes taken))
 
--- the APDU that is due at this stage, of a poll with this association request and first second; none once the release was answered
-abbrev pub IsDueAt : List ℕ → Option ℕ → Stage → List ℕ → Type 0
-IsDueAt association after Associating apdu = apdu ≡ association
-IsDueAt association after Naming apdu = apdu ≡ columns_bytes
-IsDueAt association after (Getting taken) apdu = IsNextGet after taken apdu
-IsDueAt association after Checking apdu = apdu ≡ columns_bytes
-IsDueAt association after Releasing apdu = apdu ≡ release_request
-IsDueAt association after Leaving apdu = ⊥
+-- the APDU that is due at this stage, of a poll with this association request between these seconds; none once the release was answered
+abbrev pub IsDueAt : List ℕ → (after until : Option ℕ) → Stage → List ℕ → Type 0
+IsDueAt association after until Associating apdu = apdu ≡ association
+IsDueAt association after until Naming apdu = apdu ≡ columns_bytes
+IsDueAt association after until (Getting taken) apdu = IsNextGet after until taken apdu
+IsDueAt association after until Checking apdu = apdu ≡ columns_bytes
+IsDueAt association after until Releasing apdu = apdu ≡ release_request
+IsDueAt association after until Leaving apdu = ⊥
 
 -- ---- by the APDUs that it took
 
--- what a poll reads: its association request, the first second of the rows, and whether the columns are asked for
+-- what a poll reads: its association request, the first and the last second of the rows, and whether the columns are asked for
 pub record Requests : Type 0 where
   pub association : List ℕ
   pub after : Option ℕ
+  pub until : Option ℕ
   pub columns : Columns
 
 -- what a poll asks once it took these APDUs: an association request, a GET of the columns, a GET of the buffer, a GET of the next
@@ -58,7 +59,7 @@ pub record Requests : Type 0 where
 pub data AsksFor (r : Requests) (apdus : List (List ℕ)) (apdu : List ℕ) : Type 0 where
   Associates : apdus ≡ [] → apdu ≡ r.association → AsksFor r apdus apdu
   Names : r.columns ≡ Asked → HasAccepted apdus → apdu ≡ columns_bytes → AsksFor r apdus apdu
-  Gets : (joined : List ℕ) → HasBlocks r.columns apdus 0 joined → IsBufferRequest r.after apdu
+  Gets : (joined : List ℕ) → HasBlocks r.columns apdus 0 joined → IsBufferRequest r.after r.until apdu
       → AsksFor r apdus apdu
   GetsBlock : (taken : ℕ) (joined : List ℕ) → 0 < taken → HasBlocks r.columns apdus taken joined
       → apdu ≡ next_bytes taken
@@ -75,6 +76,7 @@ abbrev pub requests_by : PlanValue → Requests
 requests_by plan = record {
   association = association_bytes plan;
   after = plan.after;
+  until = plan.until;
   columns = plan.columns;
 }
 

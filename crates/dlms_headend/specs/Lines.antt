@@ -57,6 +57,11 @@ pub record IsFirstFault (text : List ℕ) (number : ℕ) : Type 0 where
   pub more : 0 < length rest
   pub no_line : (row : Row) (behind : List ℕ) → BeginsWith rest row behind → ⊥
 
+-- reading stopped at the first line of another form, or for want of memory in a text that has octets
+abbrev pub StopsIn : List ℕ → ReadingsFault → Type 0
+StopsIn text (Line number) = IsFirstFault text number
+StopsIn text Memory = 0 < length text
+
 -- what a refusal says of the text; memory is wanting only for a file that has rows
 abbrev pub Refuses : List ℕ → ReadingsFault → Type 0
 Refuses text (Line number) = IsFirstFault text number

@@ -41,7 +41,7 @@ Gives link apdu frame new = (length apdu ≤ MOST_APDU) × (frame ≡ (client_se
 
 -- the request for the next block; for the buffer, if no block has come
 abbrev pub IsGet : PlanValue → ℕ → List ℕ → Type 0
-IsGet plan taken apdu = ((taken ≡ 0) × IsBufferRequest plan.after apdu)
+IsGet plan taken apdu = ((taken ≡ 0) × IsBufferRequest plan.after plan.until apdu)
     ⊎ ((0 < taken) × (apdu ≡ next_bytes taken))
 
 -- what goes out at this stage

@@ -1,11 +1,11 @@
 //! The requests of a poll.
 
-ghost use Rattle.std.specs.Prelude.{◌≡◌, ◌≤◌, ◌<◌, ◌^◌, ◌+◌, ◌++◌, All, length, IfSome};
+ghost use Rattle.std.specs.Prelude.{◌≡◌, ◌≤◌, ◌<◌, ◌^◌, ◌+◌, ◌++◌, All, length};
 ghost use Rattle.arrayvec.specs.ArrayVec.{array_vec_len};
 ghost use Rattle.dlms_data.specs.Building.{IsTime};
 ghost use Rattle.dlms_data.specs.Value.{Value};
 ghost use Rattle.dlms_data.specs.Writing.{canonical};
-ghost use Rattle.dlms_headend.specs.Asking.{columns_bytes, next_bytes, IsBufferRequest};
+ghost use Rattle.dlms_headend.specs.Asking.{AreSeconds, columns_bytes, next_bytes, IsBufferRequest};
 
 use arrayvec::ArrayVec;
 use dlms_data::{LAST_SECOND, octets};
@@ -65,17 +65,17 @@ fn append_time(request: &mut Request, second: u32)
     append(request, octets.as_slice());
 }
 
-/// The GET of the rows from that second on; from 0 if there is none. It takes no memory.
+/// The GET of the rows from that second on, or from 0, until the other one, or the clock's last. It takes no memory.
 #[tactic(auto, using(crate::proofs::Requests::request_is_short))]
-pub fn buffer_request(after: Option<u32>) -> Request
-    requires { IfSome after (λ second. second ≤ LAST_SECOND) }
-    ensures asks { IsBufferRequest after result.items }
+pub fn buffer_request(after: Option<u32>, until: Option<u32>) -> Request
+    requires { AreSeconds after until }
+    ensures asks { IsBufferRequest after until result.items }
     ensures short { length result.items ≤ MOST_OCTETS }
 {
     let mut request = ArrayVec::new();
     append(&mut request, RANGE_HEAD.as_slice());
     append_time(&mut request, after.unwrap_or(0));
-    append_time(&mut request, LAST_SECOND);
+    append_time(&mut request, until.unwrap_or(LAST_SECOND));
     append(&mut request, ALL_COLUMNS.as_slice());
     request
 }

@@ -2,6 +2,7 @@
 
 ghost use Rattle.std.specs.Prelude.{[], Ok, Err, ◌≡◌, ◌<◌, ◌≤◌, ◌↔◌, List, ℕ, IsTrue, IfSome, MatchOption, length};
 ghost use Rattle.dlms_carrier.specs.declared.event.Event.TheVariants.{Apdu as ApduCame, Up};
+ghost use Rattle.dlms_headend.specs.Asking.{AreSeconds};
 ghost use Rattle.dlms_headend.specs.CarrierPollValue.{requests_of, terms_of};
 ghost use Rattle.dlms_headend.specs.CarrierPolling.{AsksNext, Begins, CanBegin, ComesBy, ComesUp, Fails, Feeds, Fits, GoesOn, HasAll, Hears, IsAsking, IsDone, IsOdd, IsUnderWay, Leaves, Opens, Stops, TakesOver, TimesOut, Waits, fresh_over};
 ghost use Rattle.dlms_headend.specs.Due.{IsDueAt};
@@ -22,7 +23,6 @@ use crate::stage::{PollCourse, Stage};
 use crate::step::{PollHeard, PollOutcome};
 use crate::talk::Talk;
 use dlms_carrier::{Carrier, Event};
-use dlms_data::LAST_SECOND;
 use std::alloc::{Allocator, Global};
 use std::marker::Model;
 
@@ -40,31 +40,30 @@ pub struct CarrierPoll<C: Carrier + Drop, A: Allocator = Global> {
 }
 
 impl<C: Carrier + Drop, A: Allocator> Model for CarrierPoll<C, A> {
-    ghost use Rattle.std.specs.Prelude.{◌≤◌, IfSome};
-    ghost use Rattle.dlms_data.specs.declared.date_time.TheConstants.{LAST_SECOND};
+    ghost use Rattle.dlms_headend.specs.Asking.{AreSeconds};
     ghost use Rattle.dlms_headend.specs.CarrierPollValue.{CarrierPollValue, terms_of};
 
     ghost Value = { CarrierPollValue C };
 
     ghost view = { λ p. record { terms = terms_of p.terms; carrier = p.carrier; course = p.course; talk = p.talk } };
 
-    ghost invariant = { λ p. IfSome p.terms.after (λ second. second ≤ LAST_SECOND) };
+    ghost invariant = { λ p. AreSeconds p.terms.after p.terms.until };
 }
 
 /// The request that is due at a stage of a poll by these terms, or none once the release was answered. It takes no memory.
 fn due(terms: &PollTerms, stage: Stage) -> Option<Request>
-    requires { IfSome terms.now.after (λ second. second ≤ LAST_SECOND) }
+    requires { AreSeconds terms.now.after terms.now.until }
     ensures due { MatchOption result (stage ≡ Leaving) (λ request.
-        IsDueAt (requests_of (terms_of terms.now)).association terms.now.after stage request.items) }
+        IsDueAt (requests_of (terms_of terms.now)).association terms.now.after terms.now.until stage request.items) }
     ensures short { IfSome result (λ request. length request.items ≤ 128) }
 {
-    due_apdu(terms.sent_secret(), terms.after, stage)
+    due_apdu(terms.sent_secret(), terms.after, terms.until, stage)
 }
 
 impl<C: Carrier + Drop, A: Allocator + Copy> CarrierPoll<C, A> {
     /// A poll by these terms over this carrier. It allocates nothing.
     pub fn new(alloc: A, carrier: C, terms: PollTerms) -> Self
-        requires { IfSome terms.after (λ second. second ≤ LAST_SECOND) }
+        requires { AreSeconds terms.after terms.until }
         ensures value { result ≡ fresh_over carrier (terms_of terms) }
         ensures fits { Fits result [] }
     {

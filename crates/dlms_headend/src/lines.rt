@@ -2,7 +2,7 @@
 
 ghost use Rattle.std.specs.Prelude.{◌≡◌, ◌+◌, ◌<◌, ◌^◌, ◌∷◌, ◌++◌, ℕ, List, length, IfSome, IfNone, IfOk, IfErr, OnOk, OnErr, [], string_bytes};
 ghost use Rattle.std.specs.Fmt.{decimal};
-ghost use Rattle.dlms_headend.specs.Lines.{is_plain, Lacks, field, line, text_of, IsFile, BeginsWith, Refuses};
+ghost use Rattle.dlms_headend.specs.Lines.{is_plain, Lacks, field, line, text_of, IsFile, BeginsWith, Refuses, StopsIn};
 
 use crate::readings_fault::ReadingsFault;
 use crate::row::{Row, keep};
@@ -83,7 +83,7 @@ fn row(bytes: &[u8]) -> Option<(Row, &[u8])>
 }
 
 /// The number of lines of the text, each of which is the line of a row; if one is not, its fault.
-pub fn count(text: &[u8]) -> Result<usize, ReadingsFault>
+fn count(text: &[u8]) -> Result<usize, ReadingsFault>
     ensures ok { IfOk result (λ count. (rows : List Row) × IsFile text.now rows
         × (count ≡ length rows)) }
     ensures err { IfErr result (λ fault. Refuses text.now fault) }
@@ -100,13 +100,12 @@ pub fn count(text: &[u8]) -> Result<usize, ReadingsFault>
     Ok(count)
 }
 
-/// The rows of a text with this many lines. Memory is allocated only if there are some.
-pub fn rows<A: Allocator>(alloc: A, text: &[u8], count: usize) -> Result<Vec<Row, A>, ReadingsFault>
-    requires { (rows : List Row) × IsFile text.now rows × (count ≡ length rows) }
+/// The rows of a text, which is read once. Memory runs out only if the text has octets, perhaps before a line of another form.
+fn rows_at_once<A: Allocator>(alloc: A, text: &[u8]) -> Result<Vec<Row, A>, ReadingsFault>
     ensures ok { IfOk result (λ rows. IsFile text.now rows.items) }
-    ensures err { IfErr result (λ fault. Refuses text.now fault) }
+    ensures err { IfErr result (StopsIn text.now) }
 {
-    let mut rows = Vec::with_capacity(alloc, count)?;
+    let mut rows = Vec::new(alloc);
     let mut rest = text;
     while !rest.is_empty() {
         let Some((row, behind)) = row(rest) else {
@@ -118,6 +117,29 @@ pub fn rows<A: Allocator>(alloc: A, text: &[u8], count: usize) -> Result<Vec<Row
     Ok(rows)
 }
 
+/// The fault of a text for whose rows there was no memory: that of a line of another form, if it has one.
+fn fault_without_memory(text: &[u8]) -> ReadingsFault
+    requires { 0 < length text.now }
+    ensures { Refuses text.now result }
+{
+    match count(text) {
+        Ok(_) => ReadingsFault::Memory,
+        Err(fault) => fault,
+    }
+}
+
+/// The rows of a text. A line of another form is reported even if memory runs out before it.
+pub fn rows<A: Allocator>(alloc: A, text: &[u8]) -> Result<Vec<Row, A>, ReadingsFault>
+    ensures ok { IfOk result (λ rows. IsFile text.now rows.items) }
+    ensures err { IfErr result (Refuses text.now) }
+{
+    match rows_at_once(alloc, text) {
+        Ok(rows) => Ok(rows),
+        Err(ReadingsFault::Line(number)) => Err(ReadingsFault::Line(number)),
+        Err(ReadingsFault::Memory) => Err(fault_without_memory(text)),
+    }
+}
+
 /// Appends a row's line to the text.
 fn write<A: Allocator>(text: &mut String<A>, row: &Row) -> Result<(), AllocError>
     ensures { OnOk result (string_bytes text.new ≡ string_bytes text.old ++ line row.now []) }
@@ -127,15 +149,24 @@ fn write<A: Allocator>(text: &mut String<A>, row: &Row) -> Result<(), AllocError
     write!(text, "{clock},{first},{second},{third}\n")
 }
 
+/// Appends the lines of the rows. Those of none take no memory.
+#[tactic(auto, using(crate::proofs::Files::text_grows))]
+pub fn append<A: Allocator>(text: &mut String<A>, rows: &[Row]) -> Result<(), AllocError>
+    ensures text { OnOk result (string_bytes text.new ≡ string_bytes text.old ++ text_of rows.now) }
+    ensures memory { OnErr result (0 < length rows.now) }
+{
+    for row in rows {
+        write(text, row)?;
+    }
+    Ok(())
+}
+
 /// The text of the rows. That of none takes no memory.
-#[tactic(auto, using(crate::proofs::Files::text_of_more))]
 pub fn text<A: Allocator>(alloc: A, rows: &[Row]) -> Result<String<A>, AllocError>
     ensures text { IfOk result (λ text. string_bytes text ≡ text_of rows.now) }
     ensures memory { OnErr result (0 < length rows.now) }
 {
     let mut text = String::new(alloc);
-    for row in rows {
-        write(&mut text, row)?;
-    }
+    append(&mut text, rows)?;
     Ok(text)
 }

@@ -24,6 +24,8 @@ pub struct Plan {
     pub secret: ArrayVec<u8, 16>,
     /// The first second of the clock to read, counted from 2000-01-01 00:00:00; 0 if there is none.
     pub after: Option<u32>,
+    /// The last second of the clock to read; the clock's own last one if there is none.
+    pub until: Option<u32>,
     /// Whether the columns are asked for.
     pub columns: Columns,
 }
@@ -49,6 +51,8 @@ pub struct PollTerms {
     pub secret: Option<ArrayVec<u8, 16>>,
     /// The first second of the clock to read, counted from 2000-01-01 00:00:00; 0 if there is none.
     pub after: Option<u32>,
+    /// The last second of the clock to read; the clock's own last one if there is none.
+    pub until: Option<u32>,
     /// Whether the columns are asked for.
     pub columns: Columns,
 }

@@ -8,7 +8,7 @@ ghost use Rattle.dlms_link.specs.declared.out.ClientOut.TheVariants.{Down};
 ghost use Rattle.dlms_headend.specs.declared.row.Row.{Row as RowOf};
 ghost use Rattle.dlms_headend.specs.declared.step.PollStep.TheVariants.{Done};
 ghost use Rattle.dlms_headend.specs.Poll.{HasReleased};
-ghost use Rattle.dlms_headend.specs.Asking.{association_bytes};
+ghost use Rattle.dlms_headend.specs.Asking.{AreSeconds, association_bytes};
 ghost use Rattle.dlms_headend.specs.PollerValue.{plan_of};
 ghost use Rattle.dlms_headend.specs.Rows.{AreReadings};
 ghost use Rattle.dlms_headend.specs.Talk.{FitsTalk, CanTake, Ends};
@@ -22,7 +22,6 @@ use crate::row::Row;
 use crate::stage::{Course, Stage};
 use crate::step::PollStep;
 use crate::talk::Talk;
-use dlms_data::LAST_SECOND;
 use dlms_frame::{Frame, SentFrame};
 use dlms_link::{ClientLink, ClientOut};
 use std::alloc::{Allocator, Global};
@@ -51,10 +50,10 @@ impl<A: Allocator> Model for Poller<A> {
 /// The frame that goes out at this stage. It takes no memory.
 fn due(plan: &Plan, link: &mut ClientLink, stage: Stage) -> SentFrame
     requires idle { IsIdle link.old }
-    requires after { IfSome plan.now.after (λ second. second ≤ LAST_SECOND) }
+    requires seconds { AreSeconds plan.now.after plan.now.until }
     ensures { IsDue (plan_of plan.now) stage link.old result link.new }
 {
-    match due_apdu(plan.sent_secret(), plan.after, stage) {
+    match due_apdu(plan.sent_secret(), plan.after, plan.until, stage) {
         Some(request) => link.send(request.as_slice()),
         None => link.disconnect(),
     }
@@ -63,7 +62,7 @@ fn due(plan: &Plan, link: &mut ClientLink, stage: Stage) -> SentFrame
 impl<A: Allocator + Copy> Poller<A> {
     /// A poll by this plan. No memory is taken here.
     pub fn new(alloc: A, plan: Plan) -> Self
-        requires { IfSome plan.after (λ second. second ≤ LAST_SECOND) }
+        requires { AreSeconds plan.after plan.until }
         ensures value { result ≡ fresh_poll (plan_of plan) }
         ensures fits { Fits result [] }
     {

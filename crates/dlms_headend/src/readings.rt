@@ -1,6 +1,6 @@
 //! The readings file: the rows of all polls, in the order in which they came.
 
-ghost use Rattle.std.specs.Prelude.{◌≡◌, ◌≤◌, ◌<◌, ◌+◌, ◌^◌, ◌++◌, All, List, length, take, filter, IfOk, IfErr, IfSome, OnOk, OnErr, MatchResult, string_bytes};
+ghost use Rattle.std.specs.Prelude.{◌≡◌, ◌≤◌, ◌<◌, ◌+◌, ◌^◌, ◌++◌, All, List, drop, length, take, filter, IfOk, IfErr, IfSome, OnOk, OnErr, MatchResult, string_bytes};
 ghost use Rattle.dlms_headend.specs.Lines.{line, text_of, IsFile, Refuses};
 ghost use Rattle.dlms_headend.specs.Rows.{AreReadings, HaveRegisters};
 ghost use Rattle.dlms_headend.specs.Merged.{last_clock, is_later, is_reading, is_added, readings_in, added, merged};
@@ -104,14 +104,13 @@ fn append<A: Allocator>(
 fn read<A: Allocator>(alloc: A, text: &[u8]) -> Result<Readings<A>, ReadingsFault>
     ensures { MatchResult result (IsFile text.now) (Refuses text.now) }
 {
-    let count = lines::count(text)?;
-    let rows = lines::rows(alloc, text, count)?;
+    let rows = lines::rows(alloc, text)?;
     Ok(Readings { rows })
 }
 
 impl<A: Allocator + Copy> Readings<A> {
     /// Reads a file's text: a line `clock,r0,r1,r2` for each row, in plain decimal, each line ended by a line feed. A line of
-    /// another form is reported before memory is allocated, and an empty text takes none.
+    /// another form is reported even if memory runs out, and an empty text takes none.
     pub fn open(alloc: A, text: &str) -> Result<Self, ReadingsFault>
         // The text is that of the rows, and each row is one that a file may hold.
         ensures found { IfOk result (IsFile text.now) }
@@ -152,6 +151,15 @@ impl<A: Allocator + Copy> Readings<A> {
         ensures memory { OnErr result (0 < length self.now) }
     {
         lines::text(*self.rows.allocator(), &self.rows)
+    }
+
+    /// Appends the lines of all rows but the first so many to a text.
+    pub fn append_text(&self, text: &mut String<A>, from: usize) -> Result<(), AllocError>
+        ensures text { OnOk result (string_bytes text.new ≡ string_bytes text.old ++ text_of (drop from self.now)) }
+        ensures memory { OnErr result (0 < length (drop from self.now)) }
+        ensures readings { AreReadings self.now }
+    {
+        lines::append(text, self.rows.get(from..).unwrap_or(&[]))
     }
 
     /// The rows, in the order of their lines.

@@ -3,19 +3,16 @@ use Rattle.std.proofs.Common.{◌≡◌, refl, sym, ap, subst, Box, List, [], �
 use Rattle.std.specs.declared.alloc.Global.{Global}
 use Rattle.dlms_ends.specs.PollEnds.{PollEndValue}
 use Rattle.dlms_ends.specs.declared.fault.RunFault.{RunFault}
-use Rattle.dlms_fleet.specs.Alone.{AreGoing, EndsWith, IsGoing, JobRun, SeatRun}
+use Rattle.dlms_fleet.specs.Alone.{AreGoing, EndsWith, IsGoing, JobRun}
 use Rattle.dlms_fleet.specs.Inputs.{Input}
-use Rattle.dlms_fleet.specs.Runs.{Own}
-use Rattle.dlms_fleet.specs.Seats.{seat_of}
 use Rattle.dlms_fleet.specs.declared.job.JobStep.{JobStep}
 use Rattle.dlms_fleet.specs.declared.job.JobStep.TheVariants as taken
 use Rattle.dlms_fleet.specs.declared.running.Outcome.TheVariants as outcome
-use Rattle.dlms_fleet.proofs.Alone.{each_alone}
-use Rattle.dlms_fleet.proofs.Ends.{ends_by_its_steps}
+use Rattle.dlms_fleet.proofs.Numbers.{keeps_numbers}
 use Rattle.dlms_jobs.specs.PollJobs.{JobSteps as PollSteps}
 use Rattle.dlms_jobs.specs.Polled.{DoneIsAPoll as DonePolls}
 use Rattle.dlms_inquiries.specs.Inquiries.{Sent}
-use Rattle.dlms_inquiries.specs.MeterJobs.{DoneIsAPoll, MeterSteps, of_poll}
+use Rattle.dlms_inquiries.specs.MeterJobs.{DoneIsAPoll, MeterSteps, of_poll, poll_of}
 use Rattle.dlms_inquiries.specs.declared.meter_job.JobFault.{JobFault}
 use Rattle.dlms_inquiries.specs.declared.meter_job.MeterJob.{MeterJob}
 use Rattle.dlms_inquiries.specs.declared.meter_job.MeterJob.TheVariants.{Poll, Text, Values}
@@ -64,10 +61,8 @@ polls job result (one ∷ front) at (goes, going) (mid, takes, rest) =
     one_before job result one mid goes takes (λ m is. polls m result front at going (subst (λ (x : MeterJob). JobRun MeterSteps x (front ++ (at, taken.Done) ∷ []) (Poll result)) is rest))
 
 pub done_polled : DonePolls → DoneIsAPoll
-done_polled law route terms guard old new events seat job result run is on =
-    let alone = each_alone MeterSteps old new events run seat in
-    let mine = subst (λ (own : List (Own MeterJob Sent JobFault)). SeatRun MeterSteps old.limits (seat_of old.seats seat) own (seat_of new.seats seat)) on.on_seat alone in
-    let led = ends_by_its_steps MeterSteps old.limits (seat_of old.seats seat) (seat_of new.seats seat) on.before on.since on.after (Poll job) on.at outcome.Done (Poll result) mine on.runs_on in
-    let (front, at, going, e) = led.2 in
-    let made = polls job result front at going (subst (λ (steps : List (Input × JobStep Sent JobFault)). JobRun MeterSteps (Poll job) steps (Poll result)) e led.1) in
-    law route terms guard job.value result.value made.steps is made.run made.done
+done_polled law route terms guard old new events seat number number' job result run is back =
+    let kept = keeps_numbers MeterSteps old new events seat (poll_of number job) (poll_of number' result) outcome.Done run back in
+    let (front, at, going, e) = kept.1.2 in
+    let made = polls job result front at going (subst (λ (steps : List (Input × JobStep Sent JobFault)). JobRun MeterSteps (Poll job) steps (Poll result)) e kept.1.1) in
+    (kept.0, law route terms guard job.value result.value made.steps is made.run made.done)

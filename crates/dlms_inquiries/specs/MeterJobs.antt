@@ -1,18 +1,16 @@
 -- The job of a seat: a poll, or requests.
-use Rattle.std.specs.Prelude.{◌≡◌, ℕ, List, ◌∷◌, ◌++◌, Option, Box}
+use Rattle.std.specs.Prelude.{◌≡◌, ℕ, List, Option, Box}
 use Rattle.std.specs.declared.alloc.Global.{Global}
 use Rattle.dlms_carrier.specs.declared.any.Route.{Route}
 use Rattle.dlms_ends.specs.PollEnds.{IsNew, IsPolledOver, PollEndValue}
 use Rattle.dlms_ends.specs.declared.fault.RunFault.{RunFault}
-use Rattle.dlms_fleet.specs.Alone.{ends}
 use Rattle.dlms_fleet.specs.Inputs.{Input}
-use Rattle.dlms_fleet.specs.Runs.{Event, FleetRun, Own, own}
-use Rattle.dlms_fleet.specs.Runs.Own.{Started, Moved}
-use Rattle.dlms_fleet.specs.RunningJob.{MomentValue}
+use Rattle.dlms_fleet.specs.Numbers.{HandsBack, NumberedSteps, numbered}
+use Rattle.dlms_fleet.specs.Runs.{Event, FleetRun}
 use Rattle.dlms_fleet.specs.Seats.{FleetValue}
-use Rattle.dlms_fleet.specs.declared.fleet.FleetStep.TheVariants as told
 use Rattle.dlms_fleet.specs.declared.job.JobStep.{JobStep}
 use Rattle.dlms_fleet.specs.declared.job.JobStep.TheVariants as taken
+use Rattle.dlms_fleet.specs.declared.numbered.Numbered.{Numbered}
 use Rattle.dlms_fleet.specs.declared.running.Outcome.TheVariants as outcome
 use Rattle.dlms_headend.specs.CarrierPollValue.{TermsValue}
 use Rattle.dlms_jobs.specs.PollJobs.{JobSteps as PollSteps}
@@ -54,23 +52,17 @@ MeterSteps (Values old) at step (Values new) = (own : JobStep Sent InquiryFault)
 MeterSteps (Values old) at step (Poll new) = ⊥
 MeterSteps (Values old) at step (Text new) = ⊥
 
--- Of all that happened on a seat, this job was started, then this happened, and then it was handed back as done.
-pub record IsDoneOn (seat : ℕ) (events : List (Event MeterJob Sent JobFault))
-    (job result : MeterJob)
-    : Type 0 where
-  pub before : List (Own MeterJob Sent JobFault)
-  pub since : List (Own MeterJob Sent JobFault)
-  pub at : MomentValue
-  pub after : List (Own MeterJob Sent JobFault)
-  pub on_seat : own seat events ≡ before ++ Started job ∷
-      (since ++ Moved at (told.Ends outcome.Done result) ∷ after)
-  pub runs_on : ends since ≡ 0
+-- the poll of the meter with this number
+abbrev pub poll_of : ℕ → Box PollEndValue Global → Numbered MeterJob
+poll_of number poll = numbered number (Poll poll)
 
--- A new poll that was started on a seat, and that the seat handed back as done, polled its meter: its rows are those that the meter's
--- answers spell.
+-- A new poll that was started on a seat, and that the seat handed back as done, has the number that it was started with, and polled its
+-- meter: its rows are those that the meter's answers spell.
 abbrev pub DoneIsAPoll : Type 0
 DoneIsAPoll = (route : Route) (terms : TermsValue) (guard : Option GuardValue)
-    (old new : FleetValue MeterJob) (events : List (Event MeterJob Sent JobFault)) (seat : ℕ)
+    (old new : FleetValue (Numbered MeterJob))
+    (events : List (Event (Numbered MeterJob) Sent JobFault)) (seat number number' : ℕ)
     (job result : Box PollEndValue Global)
-    → FleetRun MeterSteps old events new → IsNew route terms guard job.value
-    → IsDoneOn seat events (Poll job) (Poll result) → IsPolledOver route terms guard result.value
+    → FleetRun (NumberedSteps MeterSteps) old events new → IsNew route terms guard job.value
+    → HandsBack seat events (poll_of number job) outcome.Done (poll_of number' result)
+    → (number' ≡ number) × IsPolledOver route terms guard result.value

@@ -1,7 +1,7 @@
 //! A poll over a carrier as a job: it returns the octets to send, in place of writing them.
+ghost use Rattle.dlms_headend.specs.Asking.{AreSeconds};
 ghost use Rattle.std.specs.Prelude.{◌≡◌, ◌-◌, ◌<◌, ◌≤◌, ◌↔◌, IfOk, IfSome, IsTrue, false, length, option_map};
 ghost use Rattle.dlms_carrier.specs.Any.{IsRoute};
-ghost use Rattle.dlms_data.specs.declared.date_time.TheConstants.{LAST_SECOND};
 ghost use Rattle.dlms_headend.specs.CarrierPollValue.{terms_of};
 ghost use Rattle.dlms_headend.specs.Rows.{AreReadings};
 ghost use Rattle.dlms_ends.specs.Carried.{accepted_by, fault_of, peer_of};
@@ -10,7 +10,6 @@ ghost use Rattle.dlms_fleet.specs.Inputs.Input.{Begins, Reads, TimesOut};
 ghost use Rattle.dlms_jobs.specs.PollJobs.{BeginsPoll, Collects, IsStep, ReadsBytes, ReadsPiece, TakesTimeout};
 
 use dlms_carrier::{AnyCarrier, Route};
-use dlms_data::LAST_SECOND;
 use dlms_ends::RunFault;
 use dlms_fleet::{Job, JobStep};
 use dlms_headend::{CarrierPoll, PollFault, PollOutcome, PollTerms, Row, list_columns};
@@ -76,7 +75,7 @@ impl PollJob {
         guard: Option<Box<Guard>>,
     ) -> Result<Box<PollJob>, AllocError>
         requires route { IsRoute route }
-        requires after { IfSome terms.after (λ second. second ≤ LAST_SECOND) }
+        requires after { AreSeconds terms.after terms.until }
         ensures { IfOk result (λ job. IsNew route (terms_of terms)
             (option_map (λ kept. kept.value) guard) job.value) }
     {

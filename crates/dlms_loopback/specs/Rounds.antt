@@ -42,6 +42,7 @@ plan_from secret after = record {
   client = Management;
   secret = secret;
   after = after;
+  until = None;
   columns = AsksColumns;
 }
 

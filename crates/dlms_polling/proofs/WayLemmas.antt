@@ -19,25 +19,25 @@ use Rattle.dlms_lines.specs.Watching.{Sight}
 use Rattle.dlms_polling.specs.Captures.{calls_in}
 use Rattle.dlms_polling.specs.Doing.{Does, DoesLinked, DoesSecured}
 use Rattle.dlms_polling.specs.Guards.{Guarding}
-use Rattle.dlms_polling.specs.Polled.{plan_behind, secret_in, way_by}
+use Rattle.dlms_polling.specs.Polled.{plan_after, secret_in, way_by}
 use Rattle.dlms_polling.specs.Ways.{Way, Linked, Secured}
 use Rattle.dlms_polling.specs.declared.way.DonePoll.{DonePoll}
 use Rattle.dlms_polling.specs.declared.way.DonePoll.TheVariants as done
 
 -- a poll without a route that is done is one over the link, with these calls
-pub record OverLink (client : Client) (secret : List ℕ) (rows : List Row) (old new : Option (List Moment)) (result : DonePoll) (calls : List Call) : Type 0 where
+pub record OverLink (client : Client) (secret : List ℕ) (rows : List Row) (until : Option ℕ) (old new : Option (List Moment)) (result : DonePoll) (calls : List Call) : Type 0 where
   pub poller : PollerValue
   pub same : result ≡ done.Linked poller
-  pub polled : IsPolled old new (fresh_poll (plan_behind client secret rows)) poller
+  pub polled : IsPolled old new (fresh_poll (plan_after client secret rows until)) poller
   pub calls_are : calls ≡ (Next polled.called.frame ∷ calls_of polled.front) ++ On polled.frame (Ok step.Done) ∷ []
 
-pub over_link : (is_protected : Bool) (route : Option Route) → is_protected ≡ false → route ≡ None → (client : Client) (secret : Option (List ℕ)) (rows : List Row) (seconds : ℕ) (old new : Option (List Moment)) (v w : Option (List Sight)) (given given' : Option (List Guarding)) (result : DonePoll)
-    (does : Does seconds old new v w given given' (way_by is_protected route client secret rows) (Ok (Some result)))
-    → OverLink client (secret_in secret) rows old new result (calls_in seconds old new v w given given' (way_by is_protected route client secret rows) result does)
-over_link true route is none client secret rows seconds old new v w given given' result does = absurd (cc)
-over_link false None is none client secret rows seconds old new v w given given' (done.Linked poller) does = record { poller = poller; same = refl; polled = does.0.0; calls_are = refl }
-over_link false None is none client secret rows seconds old new v w given given' (done.Routed end) does = absurd does
-over_link false (Some route) is none client secret rows seconds old new v w given given' result does = absurd (cc)
+pub over_link : (is_protected : Bool) (route : Option Route) → is_protected ≡ false → route ≡ None → (client : Client) (secret : Option (List ℕ)) (rows : List Row) (until : Option ℕ) (seconds : ℕ) (old new : Option (List Moment)) (v w : Option (List Sight)) (given given' : Option (List Guarding)) (result : DonePoll)
+    (does : Does seconds old new v w given given' (way_by is_protected route client secret rows until) (Ok (Some result)))
+    → OverLink client (secret_in secret) rows until old new result (calls_in seconds old new v w given given' (way_by is_protected route client secret rows until) result does)
+over_link true route is none client secret rows until seconds old new v w given given' result does = absurd (cc)
+over_link false None is none client secret rows until seconds old new v w given given' (done.Linked poller) does = record { poller = poller; same = refl; polled = does.0.0; calls_are = refl }
+over_link false None is none client secret rows until seconds old new v w given given' (done.Routed end) does = absurd does
+over_link false (Some route) is none client secret rows until seconds old new v w given given' result does = absurd (cc)
 
 -- ---- a poll in one of the ways, by what is known of its parts
 

@@ -27,7 +27,7 @@ use Rattle.dlms_world.specs.Carrier.{Delivers, EndsOnCarrier, Holds, Life, plan_
 use Rattle.dlms_world.specs.Line.{DoAgree, Joins, turns_of}
 use Rattle.dlms_world.specs.Programs.{Held, Acts, IsFirst}
 use Rattle.dlms_world.specs.Sublists.{IsSublist}
-use Rattle.dlms_polling.specs.Polled.{IsDone, Known, plan_behind, secret_in, way_behind}
+use Rattle.dlms_polling.specs.Polled.{IsDone, Known, plan_after, secret_in, way_after}
 use Rattle.dlms_polling.specs.Doing.{Does}
 use Rattle.dlms_polling.specs.Guards.{Guarding}
 use Rattle.dlms_polling.specs.Ways.{Way, Linked, Routed, Secured, rows_of}
@@ -81,8 +81,8 @@ WhatIsPutAgrees old new =
     → (before after : Known) (done : IsDone polling before after)
     (m m' : MeterWorld) (steps : List Step) (run : MeterRun m steps m') → Stands old m
     → Stands new m' → DoAgree m done.rows
-    → Joins (plan_behind polling.client (secret_in done.secret) done.rows)
-    (calls_in _ _ _ _ _ _ _ (way_behind polling done.secret done.rows) done.done
+    → Joins (plan_after polling.client (secret_in done.secret) done.rows polling.until)
+    (calls_in _ _ _ _ _ _ _ (way_after polling done.secret done.rows) done.done
     done.called.attempt.does)
     (turns_of m steps m' run)
     → (text : List ℕ) × (rows : List Row)
@@ -98,8 +98,8 @@ WhatIsPutIsHeld old new =
     → (before after : Known) (done : IsDone polling before after)
     (m m' : MeterWorld) (steps : List Step) (run : MeterRun m steps m') → Stands old m
     → Stands new m' → Holds m done.rows
-    → Joins (plan_behind polling.client (secret_in done.secret) done.rows)
-    (calls_in _ _ _ _ _ _ _ (way_behind polling done.secret done.rows) done.done
+    → Joins (plan_after polling.client (secret_in done.secret) done.rows polling.until)
+    (calls_in _ _ _ _ _ _ _ (way_after polling done.secret done.rows) done.done
     done.called.attempt.does)
     (turns_of m steps m' run)
     → (text : List ℕ) × (rows : List Row)

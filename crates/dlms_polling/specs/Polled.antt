@@ -32,12 +32,13 @@ use Rattle.dlms_lines.specs.declared.fault.FieldFault.{FieldFault}
 use Rattle.dlms_lines.specs.declared.fault.FieldFault.TheVariants.{Clock}
 use Rattle.dlms_polling.specs.declared.polling.Polling.{Polling}
 
--- the plan of a poll by this client, from the last of these rows on
-abbrev pub plan_behind : Client → List ℕ → List Row → PlanValue
-plan_behind client secret before = record {
+-- the plan of a poll by this client, from the last of these rows on, until a second if one is given
+abbrev pub plan_after : Client → List ℕ → List Row → Option ℕ → PlanValue
+plan_after client secret before until = record {
   client = client;
   secret = secret;
   after = last_clock before;
+  until = until;
   columns = AsksColumns;
 }
 
@@ -46,10 +47,11 @@ secret_in None = []
 secret_in (Some secret) = secret
 
 -- the terms of a poll over a route, with this secret or with none
-abbrev pub terms_behind : Option (List ℕ) → List Row → TermsValue
-terms_behind secret before = record {
+abbrev pub terms_after : Option (List ℕ) → List Row → Option ℕ → TermsValue
+terms_after secret before until = record {
   secret = secret;
   after = last_clock before;
+  until = until;
   columns = AsksColumns;
 }
 
@@ -60,15 +62,17 @@ route_or_link (Some route) client = route
 
 -- The way of such a poll. In clear it goes over the route, if there is one, and otherwise over this client's link. In a protected
 -- association it goes over a route, and no secret is sent.
-abbrev pub way_by : (is_protected : Bool) → Option Route → Client → Option (List ℕ) → List Row → Way
-way_by true route client secret before =
-    Secured (route_or_link route client) (terms_behind None before)
-way_by false None client secret before = Linked (plan_behind client (secret_in secret) before)
-way_by false (Some route) client secret before = Routed route (terms_behind secret before)
+abbrev pub way_by : (is_protected : Bool) → Option Route → Client → Option (List ℕ) → List Row → Option ℕ → Way
+way_by true route client secret before until =
+    Secured (route_or_link route client) (terms_after None before until)
+way_by false None client secret before until =
+    Linked (plan_after client (secret_in secret) before until)
+way_by false (Some route) client secret before until =
+    Routed route (terms_after secret before until)
 
-abbrev pub way_behind : Polling → Option (List ℕ) → List Row → Way
-way_behind polling secret before =
-    way_by polling.is_protected polling.route polling.client secret before
+abbrev pub way_after : Polling → Option (List ℕ) → List Row → Way
+way_after polling secret before =
+    way_by polling.is_protected polling.route polling.client secret before polling.until
 
 -- the known questions of a head end: to the world, to what gives its guards, to the place of its readings, to its line, and the texts
 -- that it prints and reports as errors
@@ -181,10 +185,10 @@ pub record IsDone (polling : Polling) (before after : Known) : Type 0 where
   pub asked : Option (List PlaceCall)
   pub ready : IsReady polling before.seen seen before.asked asked secret rows limit
   pub done : DonePoll
-  pub called : HasDone (aim_of polling (way_behind polling secret rows)) before.past after.past
+  pub called : HasDone (aim_of polling (way_after polling secret rows)) before.past after.past
       (watch seen before.given) (watch after.seen after.given) done
   pub takes : Takes polling.strict limit (rows_of done)
-  pub polled : IsDoneBy (way_behind polling secret rows) done
+  pub polled : IsDoneBy (way_after polling secret rows) done
   pub files : FilesPolled asked after.asked before.printed after.printed before.errors after.errors
       rows (rows_of done)
 
@@ -200,7 +204,7 @@ pub data PollFails (polling : Polling) (before after : Known) (fault : FieldFaul
   NotCalled : (secret : Option (List ℕ)) (rows : List Row) (limit : Option Limit)
       (seen : Option (List Sight))
       → IsReady polling before.seen seen before.asked after.asked secret rows limit
-      → FailsCalled (aim_of polling (way_behind polling secret rows)) polling.strict limit
+      → FailsCalled (aim_of polling (way_after polling secret rows)) polling.strict limit
       before.past after.past (watch seen before.given) (watch after.seen after.given) fault
       → PrintsNone before after
       → PollFails polling before after fault
@@ -208,7 +212,7 @@ pub data PollFails (polling : Polling) (before after : Known) (fault : FieldFaul
       (seen : Option (List Sight)) (asked : Option (List PlaceCall))
       → IsReady polling before.seen seen before.asked asked secret rows limit
       → (done : DonePoll)
-      → HasDone (aim_of polling (way_behind polling secret rows)) before.past after.past
+      → HasDone (aim_of polling (way_after polling secret rows)) before.past after.past
       (watch seen before.given) (watch after.seen after.given) done
       → Takes polling.strict limit (rows_of done)
       → FilesNone (readings_of polling) asked after.asked before.printed after.printed before.errors

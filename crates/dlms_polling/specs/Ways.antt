@@ -4,14 +4,13 @@ use Rattle.dlms_carrier.specs.Any.{IsRoute, outlasts as route_outlasts}
 use Rattle.dlms_carrier.specs.declared.any.Route.{Route}
 use Rattle.dlms_carrier.specs.declared.any.Route.TheVariants.{Hdlc}
 use Rattle.dlms_client.specs.Plan.{PlanValue as PlanOfClient}
-use Rattle.dlms_data.specs.declared.date_time.TheConstants.{LAST_SECOND}
 use Rattle.dlms_ends.specs.BothEnds.{IsDonePoll}
 use Rattle.dlms_ends.specs.PollEnds.{IsPolledOver, PollEndValue}
 use Rattle.dlms_frame.specs.Client.{sap_of}
 use Rattle.dlms_frame.specs.declared.client.Client.{Client}
 use Rattle.dlms_frame.specs.declared.client.Client.TheVariants.{Public, Management, Reader}
 use Rattle.dlms_frame.specs.declared.frame.Address.TheVariants.{One}
-use Rattle.dlms_headend.specs.Asking.{PlanValue}
+use Rattle.dlms_headend.specs.Asking.{AreSeconds, PlanValue}
 use Rattle.dlms_headend.specs.CarrierPollValue.{TermsValue, terms_of}
 use Rattle.dlms_headend.specs.PollerValue.{plan_of}
 use Rattle.dlms_headend.specs.declared.row.Row.{Row}
@@ -33,12 +32,11 @@ way_of (by.Linked plan) = Linked (plan_of plan)
 way_of (by.Routed route terms) = Routed route (terms_of terms)
 way_of (by.Secured route terms) = Secured route (terms_of terms)
 
--- its first second is one of the clock's, and its addresses are in their ranges
+-- its seconds are those of the clock, and its addresses are in their ranges
 abbrev pub IsWay : Way → Type 0
-IsWay (Linked plan) = IfSome plan.after (λ second. second ≤ LAST_SECOND)
-IsWay (Routed route terms) = IsRoute route × IfSome terms.after (λ second. second ≤ LAST_SECOND)
-IsWay (Secured route terms) = IsRoute route
-    × IfSome terms.after (λ second. second ≤ LAST_SECOND)
+IsWay (Linked plan) = AreSeconds plan.after plan.until
+IsWay (Routed route terms) = IsRoute route × AreSeconds terms.after terms.until
+IsWay (Secured route terms) = IsRoute route × AreSeconds terms.after terms.until
 
 -- whether a connection outlasts an association over it, and an answer that did not come
 abbrev pub outlasts : Way → Bool

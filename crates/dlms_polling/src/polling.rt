@@ -1,11 +1,12 @@
 //! A head end that polls the meter at an address once.
 
-ghost use Rattle.std.specs.Prelude.{◌≡◌, IfErr, IfOk, IfSome, option_map};
+ghost use Rattle.std.specs.Prelude.{◌≡◌, ◌≤◌, IfErr, IfOk, IfSome, option_map};
 ghost use Rattle.dlms_carrier.specs.Any.{IsRoute};
+ghost use Rattle.dlms_data.specs.declared.date_time.TheConstants.{LAST_SECOND};
 ghost use Rattle.dlms_polling.specs.Calling.{FailsCalled, HasDone, aim_of};
 ghost use Rattle.dlms_polling.specs.Clocks.{Takes};
 ghost use Rattle.dlms_polling.specs.Guards.{watch};
-ghost use Rattle.dlms_polling.specs.Polled.{IsReady, IsUnready, JudgesFiled, Known, Limits, Polls, route_or_link, secret_in, way_behind};
+ghost use Rattle.dlms_polling.specs.Polled.{IsReady, IsUnready, JudgesFiled, Known, Limits, Polls, route_or_link, secret_in, way_after};
 ghost use Rattle.dlms_polling.specs.Ways.{IsDoneBy, IsWay, rows_of, way_of};
 
 use crate::calling::call;
@@ -47,6 +48,8 @@ pub struct Polling<'a, 'e> {
     /// How many times a meter is called again that does not answer, or whose connection is refused or lost; `MOST_RETRIES` leaves the
     /// deadline as the only bound.
     pub retries: u32,
+    /// The last second of the meter's clock whose rows are asked for; without it, the clock's own last one.
+    pub until: Option<u32>,
     /// By how many seconds a row's clock may be past the system's; without it, by any.
     pub ahead: Option<u32>,
     /// Whether an answer is refused if one of its rows is not later than the row before it. Otherwise such rows are left out.
@@ -223,17 +226,19 @@ fn route_or_link(route: Option<Route>, client: Client) -> Route
 }
 
 /// How the meter is polled from the last of the readings on, with this secret, which no protected association sends.
-fn way_behind(
+fn way_after(
     polling: &Polling<'_, '_>,
     secret: Option<ArrayVec<u8, 16>>,
     readings: &Readings,
 ) -> Way
-    requires { IfSome polling.now.route IsRoute }
-    ensures way { way_of result ≡ way_behind polling.now (option_map (λ s. s.items) secret)
+    requires route { IfSome polling.now.route IsRoute }
+    requires until { IfSome polling.now.until (λ second. second ≤ LAST_SECOND) }
+    ensures way { way_of result ≡ way_after polling.now (option_map (λ s. s.items) secret)
         readings.now }
     ensures lawful { IsWay (way_of result) }
 {
     let after = readings.last();
+    let until = polling.until;
     let columns = Columns::Asked;
     if polling.is_protected {
         let route = route_or_link(polling.route, polling.client);
@@ -241,6 +246,7 @@ fn way_behind(
         let terms = PollTerms {
             secret,
             after,
+            until,
             columns,
         };
         return Way::Secured(route, terms);
@@ -251,6 +257,7 @@ fn way_behind(
             PollTerms {
                 secret,
                 after,
+                until,
                 columns,
             },
         ),
@@ -258,13 +265,15 @@ fn way_behind(
             client: polling.client,
             secret: or_empty(secret),
             after,
+            until,
             columns,
         }),
     }
 }
 
 /// Polls the meter at an address once over a line, by the route if one is given, if it shows the expected texts, merges the rows into
-/// the file if one is given, and prints the rows that the file did not have. The caller has checked a route by `Route::is_lawful`.
+/// the file if one is given, and prints the rows that the file did not have. The caller has checked a route by `Route::is_lawful`,
+/// and that `until` is a second of the clock.
 ///
 /// The secret and the file are read before the meter is called, and no other poll has the file until the end. Each row that is later
 /// than the row filed before it is filed; the number of rows left out is reported on the errors. Rows that are too far past the clock of
@@ -277,7 +286,8 @@ pub fn poll<'a, D: PollInputs, G: Guards, F: Holding, L: Dialling, O: Output, E:
     output: &mut O,
     errors: &mut E,
 ) -> Result<(), FieldFault<'a>>
-    requires { IfSome polling.now.route IsRoute }
+    requires route { IfSome polling.now.route IsRoute }
+    requires until { IfSome polling.now.until (λ second. second ≤ LAST_SECOND) }
     ensures { let before : Known = record {
       seen = D.seen setup.old.inputs;
       given = G.given setup.old.guards;
@@ -301,7 +311,7 @@ pub fn poll<'a, D: PollInputs, G: Guards, F: Holding, L: Dialling, O: Output, E:
         Err(fault) => return Err(fault),
     };
     let mut readings = ready.readings;
-    let way = way_behind(polling, ready.secret, &readings);
+    let way = way_after(polling, ready.secret, &readings);
     let done = match call_meter(
         alloc,
         &mut setup.inputs,

@@ -1,8 +1,8 @@
 //! A poll over a route, until a deadline.
 
+ghost use Rattle.dlms_headend.specs.Asking.{AreSeconds};
 ghost use Rattle.std.specs.Prelude.{◌≡◌, ◌≤◌, IfOk, IfSome, None, option_map};
 ghost use Rattle.dlms_carrier.specs.Any.{IsRoute};
-ghost use Rattle.dlms_data.specs.declared.date_time.TheConstants.{LAST_SECOND};
 ghost use Rattle.dlms_ends.specs.Carried.{is_down};
 ghost use Rattle.dlms_ends.specs.PollEnds.{IsPolledOver, Listens};
 ghost use Rattle.dlms_headend.specs.CarrierPollValue.{terms_of};
@@ -15,7 +15,6 @@ ghost use Rattle.dlms_polling.specs.Ways.{IsPolledSecured};
 use crate::calling::has_to_end;
 use crate::guards::{Accepted, Guards, oldest_after};
 use dlms_client::Route;
-use dlms_data::LAST_SECOND;
 use dlms_ends::{End, PollEnd, RunFault};
 use dlms_headend::{PollFault, PollOutcome, PollTerms};
 use dlms_lines::Timer;
@@ -87,7 +86,7 @@ fn poll_over<T: Timer, S: End>(
     accepted: &mut Accepted,
 ) -> Result<Option<PollEnd>, RunFault>
     requires route { IsRoute route }
-    requires after { IfSome terms.after (λ second. second ≤ LAST_SECOND) }
+    requires after { AreSeconds terms.after terms.until }
     ensures does { DoesOver route (terms_of terms) (option_map (λ kept. kept.value) guard) seconds
         (S.past line.old) (S.past line.new) (T.seen timer.old) (T.seen timer.new) accepted.new
         result }
@@ -120,7 +119,7 @@ pub fn poll_in_clear<T: Timer, S: End>(
     terms: PollTerms,
 ) -> Result<Option<PollEnd>, RunFault>
     requires route { IsRoute route }
-    requires after { IfSome terms.after (λ second. second ≤ LAST_SECOND) }
+    requires after { AreSeconds terms.after terms.until }
     ensures does { DoesRouted route (terms_of terms) seconds (S.past line.old) (S.past line.new)
         (T.seen timer.old) (T.seen timer.new) result }
     ensures done { IfOk result (λ done. IfSome done (IsPolledOver route (terms_of terms) None)) }
@@ -171,7 +170,7 @@ pub fn poll_secured<T: Timer, S: End, G: Guards>(
     terms: PollTerms,
 ) -> Result<Option<PollEnd>, RunFault>
     requires route { IsRoute route }
-    requires after { IfSome terms.after (λ second. second ≤ LAST_SECOND) }
+    requires after { AreSeconds terms.after terms.until }
     ensures does { DoesSecured route (terms_of terms) seconds (S.past line.old) (S.past line.new)
         (T.seen timer.old) (T.seen timer.new) (G.given guards.old) (G.given guards.new) result }
     ensures done { IfOk result (λ done. IfSome done (IsPolledSecured route (terms_of terms))) }

@@ -1,8 +1,8 @@
 //! How a meter is polled: over its client's link, or over a route.
 
+ghost use Rattle.dlms_headend.specs.Asking.{AreSeconds};
 ghost use Rattle.std.specs.Prelude.{◌≡◌, ◌≤◌, IfSome, option_map};
 ghost use Rattle.dlms_client.specs.Plan.{IsPlan, plan_of as asking_plan};
-ghost use Rattle.dlms_data.specs.declared.date_time.TheConstants.{LAST_SECOND};
 ghost use Rattle.dlms_headend.specs.CarrierPollValue.{terms_of};
 ghost use Rattle.dlms_headend.specs.PollerValue.{plan_of};
 ghost use Rattle.dlms_headend.specs.Polling.{fresh_poll};
@@ -12,7 +12,6 @@ ghost use Rattle.dlms_polling.specs.Ways.{IsWay, asker_of, outlasts, rows_of, se
 
 use arrayvec::ArrayVec;
 use dlms_client::Route;
-use dlms_data::LAST_SECOND;
 use dlms_ends::PollEnd;
 use dlms_frame::{Address, Client};
 use dlms_headend::{Plan, PollTerms, Poller, Row};
@@ -84,7 +83,7 @@ fn secret_by(client: Client, secret: &ArrayVec<u8, 16>) -> Option<ArrayVec<u8, 1
 
 /// A poll by this plan that has not begun.
 pub fn fresh(alloc: Global, plan: &Plan) -> Poller
-    requires { IfSome plan.now.after (λ second. second ≤ LAST_SECOND) }
+    requires { AreSeconds plan.now.after plan.now.until }
     ensures { result ≡ fresh_poll (plan_of plan.now) }
 {
     Poller::new(
@@ -93,6 +92,7 @@ pub fn fresh(alloc: Global, plan: &Plan) -> Poller
             client: plan.client,
             secret: copy_of(&plan.secret),
             after: plan.after,
+            until: plan.until,
             columns: plan.columns,
         },
     )
@@ -105,6 +105,7 @@ pub fn again(terms: &PollTerms) -> PollTerms
     PollTerms {
         secret: copy_of_any(&terms.secret),
         after: terms.after,
+        until: terms.until,
         columns: terms.columns,
     }
 }

@@ -1,11 +1,10 @@
 -- The content of a formatted meter once the first quarter of an hour has passed: one row.
 use Rattle.std.proofs.Common.{arith, ◌≡◌, ◌∙◌, ◌<◌, ◌≤◌, ℕ, Bool, true, false, nat_le, List, [], ◌∷◌, ◌++◌, All, map, length, length-append, refl, sym, subst, Some}
-use Rattle.std.specs.Prelude.{◌^◌}
+use Rattle.std.specs.Prelude.{◌^◌, ◌&&◌}
 use Rattle.dlms_classes.specs.Shown.{IsTable, cells}
 use Rattle.dlms_data.specs.DateTime.{NamesSecond, IsPlainlyWritten}
 use Rattle.dlms_data.specs.Value.{Value, array, structure, octet_string, double_long_unsigned, none, cons}
 use Rattle.dlms_data.specs.Writing.{canonical, short_length, Fits}
-use Rattle.dlms_data.specs.declared.date_time.TheConstants.{LAST_SECOND}
 use Rattle.dlms_headend.specs.Rows.{IsProfile}
 use Rattle.dlms_headend.specs.declared.row.Row.{Row}
 use Rattle.dlms_profile.specs.Rows.{in_range, row_at}
@@ -71,14 +70,14 @@ module _ (octets : List ℕ) (bytes : All (λ octet. octet < 2 ^ 8) octets) (nam
   is_profile true = (record { time = octets; fields = refl; clock = named }, tt)
   is_profile false = tt
 
-  is_table : (second : ℕ) (b : Bool) → nat_le second 900 ≡ b → IsTable (map (cells first_columns) (in_range 0 second LAST_SECOND (row_at 900 ∷ []))) (table b)
-  is_table second true e = rw e ((record { octets = octets; bytes = bytes; value = refl; names = named; plainly = plainly }, (refl, (refl, (refl, tt)))), tt)
-  is_table second false e = rw e tt
+  is_table : (second last : ℕ) (b : Bool) → (nat_le second 900 && nat_le 900 last) ≡ b → IsTable (map (cells first_columns) (in_range 0 second last (row_at 900 ∷ []))) (table b)
+  is_table second last true e = rw e ((record { octets = octets; bytes = bytes; value = refl; names = named; plainly = plainly }, (refl, (refl, (refl, tt)))), tt)
+  is_table second last false e = rw e tt
 
-  pub is_buffer : (second : ℕ) (b : Bool) → nat_le second 900 ≡ b → IsTable (map (cells (columns_after quarter)) (in_range 0 second LAST_SECOND (buffer_after quarter))) (table b)
-  is_buffer second b e =
-      subst (λ ids. IsTable (map (cells ids) (in_range 0 second LAST_SECOND (buffer_after quarter))) (table b)) (sym columns_first)
-      (subst (λ l. IsTable (map (cells first_columns) (in_range 0 second LAST_SECOND l)) (table b)) (sym buffer_one) (is_table second b e))
+  pub is_buffer : (second last : ℕ) (b : Bool) → (nat_le second 900 && nat_le 900 last) ≡ b → IsTable (map (cells (columns_after quarter)) (in_range 0 second last (buffer_after quarter))) (table b)
+  is_buffer second last b e =
+      subst (λ ids. IsTable (map (cells ids) (in_range 0 second last (buffer_after quarter))) (table b)) (sym columns_first)
+      (subst (λ l. IsTable (map (cells first_columns) (in_range 0 second last l)) (table b)) (sym buffer_one) (is_table second last b e))
 
   pub table_fits : (b : Bool) → Fits (table b)
   table_fits true = record { levels = omega arith; in_range = (omega arith, ((omega arith, (omega (arith, named.size), (omega arith, (omega arith, (omega arith, tt))))), tt)) }

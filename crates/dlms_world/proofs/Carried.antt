@@ -1,6 +1,6 @@
 -- A meter that has captured its first row, and a poll that brings it over a carrier of messages.
 use Rattle.std.proofs.Common.{arith, ◌≡◌, ◌∙◌, ◌≤◌, ◌<◌, ◌+◌, inl, refl, sym, ap, subst, ℕ, Bool, true, false, if◌then◌else◌, nat_le, List, [], ◌∷◌, ◌++◌, length, map, All, Option}
-use Rattle.std.specs.Prelude.{◌^◌}
+use Rattle.std.specs.Prelude.{◌^◌, ◌&&◌}
 use Rattle.std.specs.List.{filter_map}
 use Rattle.std.proofs.lemmas.Bool.Decides.{nat_tests}
 use Rattle.dlms_acse.specs.Writing.{release_request}
@@ -8,9 +8,8 @@ use Rattle.dlms_data.specs.Building.{IsTime}
 use Rattle.dlms_data.specs.DateTime.{NamesSecond, IsPlainlyWritten}
 use Rattle.dlms_data.specs.Value.{Value}
 use Rattle.dlms_data.specs.Writing.{canonical}
-use Rattle.dlms_data.specs.declared.date_time.TheConstants.{LAST_SECOND}
 use Rattle.dlms_frame.specs.declared.client.Client.{Client}
-use Rattle.dlms_headend.specs.Asking.{IsBufferRequest, PlanValue, IsRange, association_bytes, buffer_bytes, first_second, range}
+use Rattle.dlms_headend.specs.Asking.{IsBufferRequest, PlanValue, IsRange, association_bytes, buffer_bytes, first_second, range, last_second}
 use Rattle.dlms_headend.specs.CarrierRun.{Beside, carried_in, passages}
 use Rattle.dlms_headend.specs.Due.{association_with}
 use Rattle.dlms_headend.proofs.DueLemmas.{asks_the_same}
@@ -37,7 +36,7 @@ use Rattle.dlms_world.specs.Sublists.{IsSublist}
 use Rattle.dlms_world.proofs.Captured as captured
 use Rattle.dlms_world.proofs.CarriedPoll as polled
 use Rattle.dlms_world.proofs.Captured.{columns_first, quarter_legal}
-use Rattle.dlms_world.proofs.Done.{range_of, rows_are, still_knows}
+use Rattle.dlms_world.proofs.Done.{range_of, rows_between_are, still_knows}
 use Rattle.dlms_world.proofs.Served as served
 
 -- ---- one message
@@ -85,12 +84,12 @@ module _ (who : Client) (records : Records) (s : SessionValue) (same : (records 
 
 -- ---- the poll
 
-module _ (plan : PlanValue) (h : KnowsSecret plan quarter) (value : Value) (wanted : IsRange (first_second plan.after) value) (octets : List ℕ) (bytes : All (λ octet. octet < 2 ^ 8) octets) (named : NamesSecond octets 900) (plainly : IsPlainlyWritten octets) where
+module _ (plan : PlanValue) (h : KnowsSecret plan quarter) (value : Value) (wanted : IsRange (first_second plan.after) (last_second plan.until) value) (octets : List ℕ) (bytes : All (λ octet. octet < 2 ^ 8) octets) (named : NamesSecond octets 900) (plainly : IsPlainlyWritten octets) where
   abbrev who : Client
   who = plan.client
 
   abbrev b : Bool
-  b = nat_le (first_second plan.after) 900
+  b = nat_le (first_second plan.after) 900 && nat_le 900 (last_second plan.until)
 
   abbrev v : Value
   v = captured.table octets bytes named plainly b
@@ -119,7 +118,7 @@ module _ (plan : PlanValue) (h : KnowsSecret plan quarter) (value : Value) (want
   serves_rows : Serves FindsMemory quarter (served.session who) (buffer_bytes value) tells
   serves_rows =
       subst (λ (x : Outcome). Serves FindsMemory quarter (served.session who) (buffer_bytes value) x) (served.is_whole v rows (captured.table_fits octets bytes named plainly b) few (captured.is_profile octets bytes named plainly b) who whole)
-      (served.serves_rows v rows (captured.table_fits octets bytes named plainly b) few (captured.is_profile octets bytes named plainly b) quarter columns_first plan h (first_second plan.after) value wanted (captured.is_buffer octets bytes named plainly (first_second plan.after) b refl))
+      (served.serves_rows v rows (captured.table_fits octets bytes named plainly b) few (captured.is_profile octets bytes named plainly b) quarter columns_first plan h (first_second plan.after) (last_second plan.until) value wanted (captured.is_buffer octets bytes named plainly (first_second plan.after) (last_second plan.until) b refl))
 
   abbrev one : List ℕ
   one = association_bytes plan
@@ -140,7 +139,7 @@ module _ (plan : PlanValue) (h : KnowsSecret plan quarter) (value : Value) (want
   one_short = served.association_short quarter quarter_legal plan h
 
   two_short : length two ≤ 125
-  two_short = served.buffer_short (first_second plan.after) value wanted
+  two_short = served.buffer_short (first_second plan.after) (last_second plan.until) value wanted
 
   opened : Serves FindsMemory quarter (fresh who) one opens
   opened = served.serves_association quarter quarter_legal plan h
@@ -191,7 +190,7 @@ module _ (plan : PlanValue) (h : KnowsSecret plan quarter) (value : Value) (want
     found_rows : Spells 0 [] tells.answer rows
     found_rows = served.spells v rows (captured.table_fits octets bytes named plainly b) few (captured.is_profile octets bytes named plainly b) who
 
-    wants : IsBufferRequest plan.after two
+    wants : IsBufferRequest plan.after plan.until two
     wants = record { value = value; is = refl; wanted = wanted }
 
     abbrev its_poll : Beside any_carrier [] (terms_by plan) (polled.calls (terms_by plan) two opens.answer tells.answer ends.answer rows trusts served.accepts found_rows served.is_released wants) (polled.done (terms_by plan) two opens.answer tells.answer ends.answer rows trusts served.accepts found_rows served.is_released wants)
@@ -203,20 +202,20 @@ module _ (plan : PlanValue) (h : KnowsSecret plan quarter) (value : Value) (want
       down = subst (λ l. IsSublist (opens.answer ∷ tells.answer ∷ ends.answer ∷ []) (map (λ y. y.outcome.answer) l)) (sym serves_three) (inl (refl, inl (refl, inl (refl, tt))));
     }
 
-    brought : (after : Option ℕ) → plan.after ≡ after → CarriedPoll plan (first_rows after) first_captured (at third)
-    brought after same = record {
+    brought : (after until : Option ℕ) → plan.after ≡ after → plan.until ≡ until → CarriedPoll plan (first_rows after until) first_captured (at third)
+    brought after until same ends = record {
       calls = _;
       done = _;
       poll = its_poll;
       course = refl;
-      rows = rows_are octets bytes named plainly plan.after b refl ∙ ap first_rows same;
+      rows = rows_between_are octets bytes named plainly plan after until b refl same ends;
       life = life;
       delivers = delivers;
     }
 
-pub carried_first : (octets : List ℕ) → All (λ octet. octet < 2 ^ 8) octets → NamesSecond octets 900 → IsPlainlyWritten octets → (after : Option ℕ) (first last : Value) → IsTime (first_second after) first → IsTime LAST_SECOND last → CanBeCarried after
-carried_first octets bytes named plainly after first last from to plan h same trusts =
-    let wanted : IsRange (first_second plan.after) (range first last) = range_of after plan first last same from to in (
+pub carried_first : (octets : List ℕ) → All (λ octet. octet < 2 ^ 8) octets → NamesSecond octets 900 → IsPlainlyWritten octets → (after until : Option ℕ) (first last : Value) → IsTime (first_second after) first → IsTime (last_second until) last → CanBeCarried after until
+carried_first octets bytes named plainly after until first last from to plan h same ends trusts =
+    let wanted : IsRange (first_second plan.after) (last_second plan.until) (range first last) = range_of after until plan first last same ends from to in (
       _,
-      brought plan (still_knows plan h) (range first last) wanted octets bytes named plainly trusts after same,
+      brought plan (still_knows plan h) (range first last) wanted octets bytes named plainly trusts after until same ends,
     )

@@ -24,7 +24,7 @@ use Rattle.dlms_headend.specs.declared.step.PollOutcome.{PollOutcome}
 use Rattle.dlms_headend.specs.declared.step.PollOutcome.TheVariants as outcome
 use Rattle.dlms_world.specs.Carrier.{any_carrier}
 
-module _ (terms : TermsValue) (get one two three : List ℕ) (rows : List Row) (trusts : terms.columns ≡ Trusted) (accepts : Accepts one) (spells : Spells 0 [] two rows) (ends : is_release three ≡ true) (wanted : IsBufferRequest terms.after get) where
+module _ (terms : TermsValue) (get one two three : List ℕ) (rows : List Row) (trusts : terms.columns ≡ Trusted) (accepts : Accepts one) (spells : Spells 0 [] two rows) (ends : is_release three ≡ true) (wanted : IsBufferRequest terms.after terms.until get) where
   -- ---- what the answers say
 
   pub blocks : HasBlocks terms.columns (one ∷ []) 0 []

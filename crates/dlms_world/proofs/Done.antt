@@ -1,7 +1,7 @@
 -- Polls that are done.
 use Rattle.std.proofs.Common.{arith, ◌≡◌, ◌∙◌, ◌≤◌, ◌<◌, ℕ, Bool, true, false, nat_le, List, [], ◌∷◌, ◌++◌, map, length, zero, suc, take, drop, length-drop, take-append-drop, Option, refl, sym, ap, subst, All, append-nil, ◌+◌, ◌*◌, Ok, Some, None}
 use Rattle.std.proofs.Math.Seq.{take-length}
-use Rattle.std.specs.Prelude.{◌^◌}
+use Rattle.std.specs.Prelude.{◌^◌, ◌&&◌}
 use Rattle.std.proofs.lemmas.Bool.{leb-false}
 use Rattle.dlms_acse.specs.Writing.{aare_bytes, release_request, release_response}
 use Rattle.dlms_apdu.specs.Forms.{get_block}
@@ -14,11 +14,10 @@ use Rattle.dlms_data.specs.Building.{IsTime}
 use Rattle.dlms_data.specs.DateTime.{NamesSecond, IsPlainlyWritten}
 use Rattle.dlms_data.specs.Value.{Value, array}
 use Rattle.dlms_data.specs.Writing.{canonical, Fits}
-use Rattle.dlms_data.specs.declared.date_time.TheConstants.{LAST_SECOND}
 use Rattle.dlms_frame.specs.Frame.{Parts}
 use Rattle.dlms_frame.specs.declared.client.Client.{Client}
 use Rattle.dlms_headend.proofs.TalkLemmas.{blocks_append}
-use Rattle.dlms_headend.specs.Asking.{PlanValue, IsRange, association_bytes, buffer_bytes, columns_bytes, first_second, invoke, next_bytes, range}
+use Rattle.dlms_headend.specs.Asking.{PlanValue, IsRange, association_bytes, buffer_bytes, columns_bytes, first_second, invoke, next_bytes, range, last_second}
 use Rattle.dlms_headend.specs.Merged.{merged}
 use Rattle.dlms_headend.specs.Poll.{Asks, associates as asks_association, names as asks_names, gets as asks_rows, goes_on as asks_further, checks as asks_again, releases as asks_release, HasAccepted, HasBlocks, HasRows, HasNamed, HasReleased, IsMoreBy, SpellsBy}
 use Rattle.dlms_headend.specs.Rows.{IsProfile, IsEncoded}
@@ -286,8 +285,8 @@ module _ (before : World) (plan : PlanValue) (E : List Event) (legal : IsLegal E
 
   -- ---- the whole poll
 
-  module _ (columns : columns_after E ≡ first_columns) (h : KnowsSecret plan E) (value : Value) (wanted : IsRange (first_second plan.after) value) (v : Value) (rows : List Row) (fits : Fits v) (few : length (canonical v) ≤ 29764)
-      (profile : IsProfile v rows) (table : IsTable (map (cells (columns_after E)) (in_range 0 (first_second plan.after) LAST_SECOND (buffer_after E))) v) (meter : ServerRecord) (session : SessionValue) (own : session.client ≡ plan.client)
+  module _ (columns : columns_after E ≡ first_columns) (h : KnowsSecret plan E) (value : Value) (wanted : IsRange (first_second plan.after) (last_second plan.until) value) (v : Value) (rows : List Row) (fits : Fits v) (few : length (canonical v) ≤ 29764)
+      (profile : IsProfile v rows) (table : IsTable (map (cells (columns_after E)) (in_range 0 (first_second plan.after) (last_second plan.until) (buffer_after E))) v) (meter : ServerRecord) (session : SessionValue) (own : session.client ≡ plan.client)
       (run : Run before (ready meter session)) where
     abbrev who : Client
     who = plan.client
@@ -363,15 +362,15 @@ module _ (before : World) (plan : PlanValue) (E : List Event) (legal : IsLegal E
           given = given ++ buffer_bytes value ∷ [];
           got = got ++ o.answer ∷ [];
           going = None;
-          awaits = round given got (served.session who) a (buffer_bytes value) (served.buffer_short (first_second plan.after) value wanted) (asks_rows [] blocks (record { value = value; is = refl; wanted = wanted })) o
-              (subst (λ (x : Outcome). Serves FindsMemory E (served.session who) (buffer_bytes value) x) (served.is_whole v rows fits few profile who e) (served.serves_rows v rows fits few profile E columns plan h (first_second plan.after) value wanted table))
+          awaits = round given got (served.session who) a (buffer_bytes value) (served.buffer_short (first_second plan.after) (last_second plan.until) value wanted) (asks_rows [] blocks (record { value = value; is = refl; wanted = wanted })) o
+              (subst (λ (x : Outcome). Serves FindsMemory E (served.session who) (buffer_bytes value) x) (served.is_whole v rows fits few profile who e) (served.serves_rows v rows fits few profile E columns plan h (first_second plan.after) (last_second plan.until) value wanted table))
               (served.whole_short v rows fits few profile who e) refl;
           come = record { before = got; answer = o.answer; taken = 0; joined = []; are = refl; blocks = blocks; spelled = served.spells v rows fits few profile who };
         }
     gets_rows false e given got a blocks =
         let o : Outcome = served.first_block v rows fits few profile who in
-        let first = round given got (served.session who) a (buffer_bytes value) (served.buffer_short (first_second plan.after) value wanted) (asks_rows [] blocks (record { value = value; is = refl; wanted = wanted })) o
-        (subst (λ (x : Outcome). Serves FindsMemory E (served.session who) (buffer_bytes value) x) (served.is_block v rows fits few profile who e) (served.serves_rows v rows fits few profile E columns plan h (first_second plan.after) value wanted table))
+        let first = round given got (served.session who) a (buffer_bytes value) (served.buffer_short (first_second plan.after) (last_second plan.until) value wanted) (asks_rows [] blocks (record { value = value; is = refl; wanted = wanted })) o
+        (subst (λ (x : Outcome). Serves FindsMemory E (served.session who) (buffer_bytes value) x) (served.is_block v rows fits few profile who e) (served.serves_rows v rows fits few profile E columns plan h (first_second plan.after) (last_second plan.until) value wanted table))
         (served.block_small encoding 1) refl in
         behind (length encoding) 0 (omega arith) (omega arith) (is_last encoding served.room 1) refl (given ++ buffer_bytes value ∷ []) got [] blocks refl o.answer refl o.own refl first
 
@@ -423,8 +422,8 @@ remembers_row = record {
 captures_row : (plan : PlanValue) → Run (first_world plan) (record (first_world plan) { memory = Runs quarter [] })
 captures_row plan = Goes (first_world plan) _ Stays (Happens (first_world plan) (Moment 900) (Runs quarter []) tt may_follow remembers_row)
 
-pub range_of : (after : Option ℕ) (plan : PlanValue) (first last : Value) → plan.after ≡ after → IsTime (first_second after) first → IsTime LAST_SECOND last → IsRange (first_second plan.after) (range first last)
-range_of after plan first last same from to = record { first = first; last = last; is = refl; from_first = subst (λ a. IsTime (first_second a) first) (sym same) from; to_last = to }
+pub range_of : (after until : Option ℕ) (plan : PlanValue) (first last : Value) → plan.after ≡ after → plan.until ≡ until → IsTime (first_second after) first → IsTime (last_second until) last → IsRange (first_second plan.after) (last_second plan.until) (range first last)
+range_of after until plan first last same ends from to = record { first = first; last = last; is = refl; from_first = subst (λ a. IsTime (first_second a) first) (sym same) from; to_last = subst (λ a. IsTime (last_second a) last) (sym ends) to }
 
 pub still_knows : (plan : PlanValue) → KnowsSecret plan [] → KnowsSecret plan quarter
 still_knows plan h = record { whose = h.whose; client = h.client; secret = h.secret ∙ secret_first h.whose }
@@ -434,20 +433,23 @@ module _ (octets : List ℕ) (bytes : All (λ octet. octet < 2 ^ 8) octets) (nam
   merges_all true = refl
   merges_all false = refl
 
-  pub rows_are : (after : Option ℕ) (b : Bool) → nat_le (first_second after) 900 ≡ b → captured.rows octets bytes named plainly b ≡ first_rows after
-  rows_are after true e = rw e refl
-  rows_are after false e = rw e refl
+  pub rows_are : (after until : Option ℕ) (b : Bool) → (nat_le (first_second after) 900 && nat_le 900 (last_second until)) ≡ b → captured.rows octets bytes named plainly b ≡ first_rows after until
+  rows_are after until true e = rw e refl
+  rows_are after until false e = rw e refl
 
-  pub done_first : (after : Option ℕ) (first last : Value) → IsTime (first_second after) first → IsTime LAST_SECOND last → CanBeDone after
-  done_first after first last from to plan h same =
-      let b : Bool = nat_le (first_second plan.after) 900 in
-      let all = by_columns (first_world plan) plan quarter quarter_legal fresh_record [] columns_first (still_knows plan h) (range first last) (range_of after plan first last same from to) (captured.table octets bytes named plainly b) (captured.rows octets bytes named plainly b)
-      (captured.table_fits octets bytes named plainly b) (omega (arith, captured.table_size octets bytes named plainly b)) (captured.is_profile octets bytes named plainly b) (captured.is_buffer octets bytes named plainly (first_second plan.after) b refl)
+  pub rows_between_are : (plan : PlanValue) (after until : Option ℕ) (b : Bool) → (nat_le (first_second plan.after) 900 && nat_le 900 (last_second plan.until)) ≡ b → plan.after ≡ after → plan.until ≡ until → captured.rows octets bytes named plainly b ≡ first_rows after until
+  rows_between_are plan after until b e same ends = rows_are plan.after plan.until b e ∙ ap (λ a. first_rows a plan.until) same ∙ ap (λ u. first_rows after u) ends
+
+  pub done_first : (after until : Option ℕ) (first last : Value) → IsTime (first_second after) first → IsTime (last_second until) last → CanBeDone after until
+  done_first after until first last from to plan h same ends =
+      let b : Bool = nat_le (first_second plan.after) 900 && nat_le 900 (last_second plan.until) in
+      let all = by_columns (first_world plan) plan quarter quarter_legal fresh_record [] columns_first (still_knows plan h) (range first last) (range_of after until plan first last same ends from to) (captured.table octets bytes named plainly b) (captured.rows octets bytes named plainly b)
+      (captured.table_fits octets bytes named plainly b) (omega (arith, captured.table_size octets bytes named plainly b)) (captured.is_profile octets bytes named plainly b) (captured.is_buffer octets bytes named plainly (first_second plan.after) (last_second plan.until) b refl)
       (fresh_server plan.client) (fresh plan.client) refl (captures_row plan) plan.columns refl in (
         all.now,
         all.run,
-        record { course = all.course; plan = all.by; events = ap events_in all.memory; rows = all.are ∙ rows_are plan.after b refl ∙ ap first_rows same },
-        all.merges ∙ merges_all b ∙ rows_are plan.after b refl ∙ ap first_rows same,
+        record { course = all.course; plan = all.by; events = ap events_in all.memory; rows = all.are ∙ rows_between_are plan after until b refl same ends },
+        all.merges ∙ merges_all b ∙ rows_between_are plan after until b refl same ends,
       )
 
 -- ---- any world
@@ -488,8 +490,8 @@ is_ready before w plan E legal up down memory own = λ i. record {
   file = w.file;
 }
 
-pub done_again : (after : Option ℕ) (first last : Value) → IsTime (first_second after) first → IsTime LAST_SECOND last → CanBeDoneAgain after
-done_again after first last from to one plan w run same short =
+pub done_again : (after until : Option ℕ) (first last : Value) → IsTime (first_second after) first → IsTime (last_second until) last → CanBeDoneAgain after until
+done_again after until first last from to one plan w run same ends short =
     let E : List Event = events_in w.memory in
     let legal : IsLegal E = (good tells one w run).legal in
     let back = recovers w w.memory refl in
@@ -502,7 +504,7 @@ done_again after first last from to one plan w run same short =
     let before : Run w (ready w plan E legal (records_in m) m.file (records_in m plan.client).link (records_in m plan.client).session) =
     subst (λ (x : World). Run w x) (is_ready w m plan E legal quiet.2 quiet.3 held own.0) (Goes m (turned m plan) here (TurnsTo m plan quiet.2 quiet.3)) in
     let due = shows_due plan E legal short.columns short.times in
-    let end = by_columns w plan E legal (records_in m) m.file short.columns short.knows (range first last) (range_of after plan first last same from to) (array due.values) (rows_due plan E) due.fits due.few due.are due.table
+    let end = by_columns w plan E legal (records_in m) m.file short.columns short.knows (range first last) (range_of after until plan first last same ends from to) (array due.values) (rows_due plan E) due.fits due.few due.are due.table
     (records_in m plan.client).link (records_in m plan.client).session own.1 before plan.columns refl in (
       end.now,
       end.run,

@@ -29,7 +29,6 @@ use Rattle.dlms_service.specs.Stake.{stake_of, fails, failing}
 use Rattle.dlms_meter.specs.Run.{Choice, Served, DeviceFails, Does}
 use Rattle.dlms_world.specs.World.{GivesData, GivesDataBy, rows_between}
 use Rattle.dlms_world.proofs.ValuesAsRows.{one_second}
-use Rattle.dlms_data.specs.declared.date_time.TheConstants.{LAST_SECOND}
 
 abbrev pub read_as : RequestForm → Result RequestForm Refusal
 read_as form = Ok form
@@ -63,8 +62,8 @@ no_data o s form reads short is given = dataless form short (subst GivesDataBy (
 
 -- ---- what is wanted
 
-pub whole_range : (second : ℕ) (value : Value) (r : IsRange second value) → value ≡ range (octet_string r.from_first.octets) (octet_string r.to_last.octets)
-whole_range second value r = r.is ∙ ap (λ v. range v r.last) r.from_first.value ∙ ap (λ v. range (octet_string r.from_first.octets) v) r.to_last.value
+pub whole_range : (second last : ℕ) (value : Value) (r : IsRange second last value) → value ≡ range (octet_string r.from_first.octets) (octet_string r.to_last.octets)
+whole_range second last value r = r.is ∙ ap (λ v. range v r.last) r.from_first.value ∙ ap (λ v. range (octet_string r.from_first.octets) v) r.to_last.value
 
 -- a client is shown the rows between two date-times
 abbrev SeesRange : List Event → Client → Value → Type 0
@@ -81,30 +80,30 @@ unfolding object_named
 reader_sees E v first last size_first size_last shown = (rw (size_first, size_last) at shown).1
 
 -- those between the two seconds that its range names
-sees_rows : (E : List Event) (client : Client) (second : ℕ) (value v : Value) → SeesRange E client v → IsRange second value → IsShown (state_of E) client buffer (wanted client buffer (Some (record { number = 1; value = value }))) (Ok v) →
-    IsTable (map (cells (columns_after E)) (rows_between (clock_place (columns_after E)) second LAST_SECOND (buffer_after E))) v
-sees_rows E client second value v sees r shown =
+sees_rows : (E : List Event) (client : Client) (second last : ℕ) (value v : Value) → SeesRange E client v → IsRange second last value → IsShown (state_of E) client buffer (wanted client buffer (Some (record { number = 1; value = value }))) (Ok v) →
+    IsTable (map (cells (columns_after E)) (rows_between (clock_place (columns_after E)) second last (buffer_after E))) v
+sees_rows E client second last value v sees r shown =
     let one : List ℕ = r.from_first.octets in
     let two : List ℕ = r.to_last.octets in
     let columns : List ℕ = columns_after E in
     let is : ShownRange columns one two (buffer_after E) v =
     sees one two r.from_first.names.size r.to_last.names.size
-    (subst (λ x. IsShown (state_of E) client buffer (wanted client buffer (Some (record { number = 1; value = x }))) (Ok v)) (whole_range second value r) shown) in
+    (subst (λ x. IsShown (state_of E) client buffer (wanted client buffer (Some (record { number = 1; value = x }))) (Ok v)) (whole_range second last value r) shown) in
     let from : is.from ≡ second = one_second one is.from second is.names_from r.from_first.names in
-    let to : is.to ≡ LAST_SECOND = one_second two is.to LAST_SECOND is.names_to r.to_last.names in
-    subst (λ p. IsTable (map (cells columns) (rows_between p second LAST_SECOND (buffer_after E))) v) (sym is.is_column)
-    (subst (λ a. IsTable (map (cells columns) (in_range is.place a LAST_SECOND (buffer_after E))) v) from (subst (λ b. IsTable (map (cells columns) (in_range is.place is.from b (buffer_after E))) v) to is.value))
+    let to : is.to ≡ last = one_second two is.to last is.names_to r.to_last.names in
+    subst (λ p. IsTable (map (cells columns) (rows_between p second last (buffer_after E))) v) (sym is.is_column)
+    (subst (λ a. IsTable (map (cells columns) (in_range is.place a last (buffer_after E))) v) from (subst (λ b. IsTable (map (cells columns) (in_range is.place is.from b (buffer_after E))) v) to is.value))
 
 -- the meter shows the buffer's rows between the two seconds
-wants : (E : List Event) (client : Client) (b : Bool) (second : ℕ) (value v : Value) → IsRange second value → IsShown (state_of E) client buffer (wanted client buffer (if b then Some (record { number = 1; value = value }) else Some no_selection)) (Ok v) →
-    IsTable (map (cells (columns_after E)) (rows_between (clock_place (columns_after E)) second LAST_SECOND (buffer_after E))) v
+wants : (E : List Event) (client : Client) (b : Bool) (second last : ℕ) (value v : Value) → IsRange second last value → IsShown (state_of E) client buffer (wanted client buffer (if b then Some (record { number = 1; value = value }) else Some no_selection)) (Ok v) →
+    IsTable (map (cells (columns_after E)) (rows_between (clock_place (columns_after E)) second last (buffer_after E))) v
 unfolding object_named
-wants E Public true second value v r shown = cc
-wants E Public false second value v r shown = cc
-wants E Management false second value v r shown = cc
-wants E Management true second value v r shown = sees_rows E Management second value v (management_sees E v) r shown
-wants E Reader false second value v r shown = cc
-wants E Reader true second value v r shown = sees_rows E Reader second value v (reader_sees E v) r shown
+wants E Public true second last value v r shown = cc
+wants E Public false second last value v r shown = cc
+wants E Management false second last value v r shown = cc
+wants E Management true second last value v r shown = sees_rows E Management second last value v (management_sees E v) r shown
+wants E Reader false second last value v r shown = cc
+wants E Reader true second last value v r shown = sees_rows E Reader second last value v (reader_sees E v) r shown
 
 -- ---- the whole GET
 
@@ -165,17 +164,17 @@ range_fits first last size_first size_last = record {
     short : (l : List ℕ) → length l ≡ 12 → length l < 2 ^ 32
     short l e = omega (arith, e)
 
-pub get_read : (second : ℕ) (value : Value) → IsRange second value → request_at (buffer_bytes value) ≡ Ok (get_normal invoke buffer (range_part value))
-get_read second value r =
-    let fits : Fits value = subst Fits (sym (whole_range second value r)) (range_fits r.from_first.octets r.to_last.octets r.from_first.names.size r.to_last.names.size) in
+pub get_read : (second last : ℕ) (value : Value) → IsRange second last value → request_at (buffer_bytes value) ≡ Ok (get_normal invoke buffer (range_part value))
+get_read second last value r =
+    let fits : Fits value = subst Fits (sym (whole_range second last value r)) (range_fits r.from_first.octets r.to_last.octets r.from_first.names.size r.to_last.names.size) in
     reads_written_requests (get_normal invoke buffer (range_part value)) fits (omega arith, refl)
 
-pub gets_tell : (E : List Event) (s : SessionValue) (value : Value) (second : ℕ) → IsRange second value → (o : Outcome) → GivesData o.answer → (choice : Choice) → Does choice E s (buffer_bytes value) o → Gave buffer (range_part value) E s o
-gets_tell E s value second r o given choice does = gave_by buffer (range_part value) (buffer_bytes value) (get_read second value r) E s o given (λ choice serves. serves) choice does
+pub gets_tell : (E : List Event) (s : SessionValue) (value : Value) (second last : ℕ) → IsRange second last value → (o : Outcome) → GivesData o.answer → (choice : Choice) → Does choice E s (buffer_bytes value) o → Gave buffer (range_part value) E s o
+gets_tell E s value second last r o given choice does = gave_by buffer (range_part value) (buffer_bytes value) (get_read second last value r) E s o given (λ choice serves. serves) choice does
 
-pub table_shown : (E : List Event) (s : SessionValue) (second : ℕ) (value : Value) (o : Outcome) → IsRange second value → (g : Gave buffer (range_part value) E s o) →
-    IsTable (map (cells (columns_after E)) (rows_between (clock_place (columns_after E)) second LAST_SECOND (buffer_after E))) g.v
-table_shown E s second value o r g = wants E s.client (has g.a selective_access) second value g.v r g.shown
+pub table_shown : (E : List Event) (s : SessionValue) (second last : ℕ) (value : Value) (o : Outcome) → IsRange second last value → (g : Gave buffer (range_part value) E s o) →
+    IsTable (map (cells (columns_after E)) (rows_between (clock_place (columns_after E)) second last (buffer_after E))) g.v
+table_shown E s second last value o r g = wants E s.client (has g.a selective_access) second last value g.v r g.shown
 
 -- ---- the GET of the columns
 

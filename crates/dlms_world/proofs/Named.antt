@@ -17,7 +17,7 @@ use Rattle.dlms_data.specs.Value.{Value, array}
 use Rattle.dlms_data.specs.Writing.{canonical}
 use Rattle.dlms_frame.specs.declared.client.Client.{Client}
 use Rattle.dlms_frame.specs.declared.client.Client.TheVariants.{Public, Management, Reader}
-use Rattle.dlms_headend.specs.Asking.{PlanValue, capture_objects, first_second, invoke}
+use Rattle.dlms_headend.specs.Asking.{PlanValue, capture_objects, first_second, invoke, last_second}
 use Rattle.dlms_headend.specs.Columns.{TellsBy, columns, register_column}
 use Rattle.dlms_headend.specs.Poll.{Asks}
 use Rattle.dlms_headend.specs.declared.row.Row.{Row}
@@ -42,7 +42,6 @@ use Rattle.dlms_world.specs.World.{reading_of, rows_asked, rows_between}
 use Rattle.dlms_world.proofs.Following.{block_read}
 use Rattle.dlms_world.proofs.Gets.{Gave, read_result}
 use Rattle.dlms_world.proofs.Readings.{among_append, among_more, among_between}
-use Rattle.dlms_data.specs.declared.date_time.TheConstants.{LAST_SECOND}
 
 -- ---- the buffer's rows, where the columns are the first ones
 
@@ -158,9 +157,9 @@ no_clock a =
 
 -- the rows of a range are captures by name
 by_ids : (plan : PlanValue) (E : List Event) (a : ℕ) → columns_after E ≡ a ∷ 1 ∷ 2 ∷ 3 ∷ [] → AreAmong (named_readings E) (rows_asked plan E)
-by_ids plan E zero is = among_between (named_readings E) (clock_place (columns_after E)) (first_second plan.after) LAST_SECOND (buffer_after E) (buffer_named E is)
+by_ids plan E zero is = among_between (named_readings E) (clock_place (columns_after E)) (first_second plan.after) (last_second plan.until) (buffer_after E) (buffer_named E is)
 by_ids plan E (suc a) is =
-    subst (λ place. AreAmong (named_readings E) (map reading_of (rows_between place (first_second plan.after) LAST_SECOND (buffer_after E)))) (sym (ap clock_place is ∙ no_clock a)) tt
+    subst (λ place. AreAmong (named_readings E) (map reading_of (rows_between place (first_second plan.after) (last_second plan.until) (buffer_after E)))) (sym (ap clock_place is ∙ no_clock a)) tt
 
 pub rows_named : (plan : PlanValue) (E : List Event) → names_after E ≡ columns → AreAmong (named_readings E) (rows_asked plan E)
 rows_named plan E e = let ids = are_ids (columns_after E) e in by_ids plan E ids.clock ids.are

@@ -51,7 +51,7 @@ use Rattle.dlms_world.proofs.Gets.{no_data_in, read_exception}
 use Rattle.dlms_world.proofs.Growing.{grows, settled_begins, through}
 use Rattle.dlms_world.proofs.Lawful.{beginning_legal}
 use Rattle.dlms_world.proofs.Readings.{asked_are_captures, asked_rise, merged_among, merged_rise, rose_before, still_captures, sublist_among, sublist_rise}
-use Rattle.dlms_world.proofs.SameAsMeter.{whole_range}
+use Rattle.dlms_world.proofs.SameAsMeter.{due_range}
 use Rattle.dlms_world.proofs.ServedOver.{life_grows, life_in_turn, life_own, life_settled}
 use Rattle.dlms_world.proofs.Sized.{association_sized}
 use Rattle.dlms_world.proofs.Telling.{named_parts, short_named, short_rows, tells_data, told_after}
@@ -571,7 +571,7 @@ brings plan served rows is legal = record {
   get = is.get;
   took = is.took;
   asked = is.asked;
-  are = is.are ∙ whole_range (first_second plan.after) is.get.before (IsWithinLimits-legal is.get.before legal);
+  are = is.are ∙ due_range (first_second plan.after) plan.until is.get.before (IsWithinLimits-legal is.get.before legal);
 }
 
 pub polls_hold : {C P A : Type 0} {ghosts : Ghosts P} (meaning : Meaning C) (new : Meter P A ghosts) → PollsHold meaning new

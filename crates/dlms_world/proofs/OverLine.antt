@@ -647,7 +647,7 @@ agrees : (first : PlanValue) (p : PollerValue) (m : MeterWorld) (l : OnLine) (fi
 agrees first p m l file w x = record { plan = first; run = x.run; meter = x.meter; same = x.kept }
 
 abbrev no_plan : PlanValue
-no_plan = record { client = Public; secret = []; after = None; columns = Asked }
+no_plan = record { client = Public; secret = []; after = None; until = None; columns = Asked }
 
 pub first_agree : FirstAgree
 first_agree = (first_world no_plan, record { plan = no_plan; run = Stays; meter = record { own = refl; others = λ other differs. refl; store = refl }; same = refl })

@@ -7,8 +7,7 @@ use Rattle.dlms_classes.specs.Shown.{IsRow as ShowsRow, IsTable, Match, cells, c
 use Rattle.dlms_data.specs.Building.{IsTime}
 use Rattle.dlms_data.specs.Value.{Value, Values, array, structure, octet_string, double_long_unsigned, none as no_values, cons, count, depth, values_depth}
 use Rattle.dlms_data.specs.Writing.{canonical, all_canonical, short_length, Fits, InRange, AllInRange}
-use Rattle.dlms_data.specs.declared.date_time.TheConstants.{LAST_SECOND}
-use Rattle.dlms_headend.specs.Asking.{PlanValue, first_second}
+use Rattle.dlms_headend.specs.Asking.{PlanValue, first_second, last_second}
 use Rattle.dlms_headend.specs.Rows.{IsRow, AreRows}
 use Rattle.dlms_profile.specs.Rows.{IsRow as IsSmall, in_range, is_between}
 use Rattle.dlms_profile.specs.declared.rows.Row.{Row as Captured}
@@ -20,7 +19,7 @@ use Rattle.dlms_state.specs.Refusal.{IsLegal}
 use Rattle.dlms_state.specs.declared.event.Event.{Event}
 use Rattle.dlms_world.proofs.Served.{short_three}
 use Rattle.dlms_world.proofs.ValuesAsRows.{AllHave, range_has}
-use Rattle.dlms_world.proofs.SameAsMeter.{whole_range}
+use Rattle.dlms_world.proofs.SameAsMeter.{due_range}
 use Rattle.dlms_world.specs.Possible.{HaveTimes}
 use Rattle.dlms_world.specs.World.{reading_of, rows_between, rows_due}
 
@@ -90,7 +89,7 @@ pub record Shows (plan : PlanValue) (E : List Event) : Type 0 where
   pub fits : Fits (array values)
   pub few : length (canonical (array values)) ≤ 29764
   pub are : AreRows values (rows_due plan E)
-  pub table : IsTable (map (cells (columns_after E)) (in_range 0 (first_second plan.after) LAST_SECOND (buffer_after E))) (array values)
+  pub table : IsTable (map (cells (columns_after E)) (in_range 0 (first_second plan.after) (last_second plan.until) (buffer_after E))) (array values)
 
 few_bytes : (xs : List Captured) → length xs ≤ 960 → (t : Tabled xs) → length (canonical (array t.values)) ≤ 29764
 few_bytes xs few t =
@@ -103,13 +102,14 @@ shorter p (x ∷ xs) = elim (p x) as (λ b. length (cond b (x ∷ filter p xs) (
 pub shows_due : (plan : PlanValue) (E : List Event) → IsLegal E → columns_after E ≡ first_columns → HaveTimes (rows_due plan E) → Shows plan E
 shows_due plan E legal columns times =
     let second : ℕ = first_second plan.after in
-    let xs : List Captured = in_range 0 second LAST_SECOND (buffer_after E) in
+    let last : ℕ = last_second plan.until in
+    let xs : List Captured = in_range 0 second last (buffer_after E) in
     let due : rows_due plan E ≡ map reading_of xs =
-    sym (whole_range second E (IsWithinLimits-legal E legal)) ∙ ap (λ (ids : List ℕ). map reading_of (rows_between (clock_place ids) second LAST_SECOND (buffer_after E))) columns in
-    let have : AllHave first_columns xs = subst (λ ids. AllHave ids xs) columns (range_has (Some 0) second LAST_SECOND E) in
-    let small : AllByRecursion IsSmall xs = small_among (is_between 0 second LAST_SECOND) (buffer_after E) (recursion_from_All IsSmall (buffer_after E) (FitsTypes-legal E legal).rows) in
+    sym (due_range second plan.until E (IsWithinLimits-legal E legal)) ∙ ap (λ (ids : List ℕ). map reading_of (rows_between (clock_place ids) second last (buffer_after E))) columns in
+    let have : AllHave first_columns xs = subst (λ ids. AllHave ids xs) columns (range_has (Some 0) second last E) in
+    let small : AllByRecursion IsSmall xs = small_among (is_between 0 second last) (buffer_after E) (recursion_from_All IsSmall (buffer_after E) (FitsTypes-legal E legal).rows) in
     let t : Tabled xs = tabled xs have small (subst HaveTimes due times) in
-    let some : length xs ≤ 960 = omega (arith, shorter (is_between 0 second LAST_SECOND) (buffer_after E), (FitsTypes-legal E legal).room) in
+    let some : length xs ≤ 960 = omega (arith, shorter (is_between 0 second last) (buffer_after E), (FitsTypes-legal E legal).room) in
     record {
       values = t.values;
       fits = record { levels = omega (arith, t.flat); in_range = (omega (arith, t.many, some), t.fits) };

@@ -1,5 +1,6 @@
 -- The definitions of the world beside those of the meter.
 use Rattle.std.proofs.lemmas.Bool.Decides.{nat_tests}
+use Rattle.dlms_headend.specs.Asking.{last_second}
 use Rattle.std.proofs.Common.{sym, subst, arith, ◌≡◌, ◌<◌, ◌≤◌, ◌+◌, ◌-◌, ℕ, zero, suc, Bool, true, false, cond, Option, Some, None, List, [], ◌∷◌, map, length, refl, ◌∙◌, ap, nat_le}
 use Rattle.std.specs.Prelude.{filter, ◌&&◌, ◌==◌, slice_get, slice_index}
 use Rattle.std.specs.List.{AllByRecursion, position_from}
@@ -98,5 +99,10 @@ same_rows columns second rows (Some place) is all = same_filter place second row
     each [] all = tt
     each (row ∷ rows) all = (one row all.0, each rows all.1)
 
-pub whole_range : (second : ℕ) (E : List Event) → IsWithinLimits (state_of E) → rows_from second E ≡ all_rows_from second E
+pub whole_range : (second : ℕ) (E : List Event) → IsWithinLimits (state_of E) → rows_from second LAST_SECOND E ≡ all_rows_from second None E
 whole_range second E limits = ap (map reading_of) (same_rows (columns_after E) second (buffer_after E) (clock_place (columns_after E)) refl (recursion_from_All (IsRowOf (columns_after E)) (buffer_after E) limits.rows))
+
+-- so are those of any range all that are due in it
+pub due_range : (second : ℕ) (until : Option ℕ) (E : List Event) → IsWithinLimits (state_of E) → rows_from second (last_second until) E ≡ all_rows_from second until E
+due_range second None E limits = whole_range second E limits
+due_range second (Some last) E limits = refl

@@ -30,7 +30,6 @@ use Rattle.dlms_data.proofs.Written.{is_spelled}
 use Rattle.dlms_data.specs.DateTime.{NamesSecond}
 use Rattle.dlms_data.specs.Value.{Value, array, octet_string}
 use Rattle.dlms_data.specs.Writing.{canonical, short_length, Fits}
-use Rattle.dlms_data.specs.declared.date_time.TheConstants.{LAST_SECOND}
 use Rattle.dlms_data.specs.declared.descriptor.Descriptor.{Descriptor}
 use Rattle.dlms_frame.specs.declared.client.Client.TheVariants.{Public, Management, Reader}
 use Rattle.dlms_frame.specs.declared.client.Client.{Client}
@@ -157,22 +156,22 @@ tells_columns who = subst TellsBy (sym (reads_written_responses (get_data invoke
 -- ---- the rows
 
 -- between two date-times a client with a secret is shown the rows
-shown_between : (who : Client) (whose : SecretOf) → secret_of who ≡ Some whose → (E : List Event) → columns_after E ≡ first_columns → (first last : List ℕ) (second : ℕ) → NamesSecond first second → NamesSecond last LAST_SECOND
-    → (v : Value) → IsTable (map (cells (columns_after E)) (in_range 0 second LAST_SECOND (buffer_after E))) v → IsShown (state_of E) who buffer (asked who opened buffer (range_part (range (octet_string first) (octet_string last)))) (Ok v)
+shown_between : (who : Client) (whose : SecretOf) → secret_of who ≡ Some whose → (E : List Event) → columns_after E ≡ first_columns → (first last : List ℕ) (second until : ℕ) → NamesSecond first second → NamesSecond last until
+    → (v : Value) → IsTable (map (cells (columns_after E)) (in_range 0 second until (buffer_after E))) v → IsShown (state_of E) who buffer (asked who opened buffer (range_part (range (octet_string first) (octet_string last)))) (Ok v)
 unfolding object_named
-shown_between Public whose e E columns first last second one two v value = cc
-shown_between Management whose e E columns first last second one two v value =
+shown_between Public whose e E columns first last second until one two v value = cc
+shown_between Management whose e E columns first last second until one two v value =
     rw (one.size, two.size)
-    (record { place = 0; is_column = ap clock_place columns; from = second; to = LAST_SECOND; names_from = one; names_to = two }, record { place = 0; is_column = ap clock_place columns; from = second; to = LAST_SECOND; names_from = one; names_to = two; value = value })
-shown_between Reader whose e E columns first last second one two v value =
+    (record { place = 0; is_column = ap clock_place columns; from = second; to = until; names_from = one; names_to = two }, record { place = 0; is_column = ap clock_place columns; from = second; to = until; names_from = one; names_to = two; value = value })
+shown_between Reader whose e E columns first last second until one two v value =
     rw (one.size, two.size)
-    (record { place = 0; is_column = ap clock_place columns; from = second; to = LAST_SECOND; names_from = one; names_to = two }, record { place = 0; is_column = ap clock_place columns; from = second; to = LAST_SECOND; names_from = one; names_to = two; value = value })
+    (record { place = 0; is_column = ap clock_place columns; from = second; to = until; names_from = one; names_to = two }, record { place = 0; is_column = ap clock_place columns; from = second; to = until; names_from = one; names_to = two; value = value })
 
-rows_shown : (who : Client) (whose : SecretOf) → secret_of who ≡ Some whose → (E : List Event) → columns_after E ≡ first_columns → (second : ℕ) (value : Value) → IsRange second value
-    → (v : Value) → IsTable (map (cells (columns_after E)) (in_range 0 second LAST_SECOND (buffer_after E))) v → IsShown (state_of E) who buffer (asked who opened buffer (range_part value)) (Ok v)
-rows_shown who whose e E columns second value r v is =
-    subst (λ part. IsShown (state_of E) who buffer (asked who opened buffer (range_part part)) (Ok v)) (sym (whole_range second value r))
-    (shown_between who whose e E columns r.from_first.octets r.to_last.octets second r.from_first.names r.to_last.names v is)
+rows_shown : (who : Client) (whose : SecretOf) → secret_of who ≡ Some whose → (E : List Event) → columns_after E ≡ first_columns → (second until : ℕ) (value : Value) → IsRange second until value
+    → (v : Value) → IsTable (map (cells (columns_after E)) (in_range 0 second until (buffer_after E))) v → IsShown (state_of E) who buffer (asked who opened buffer (range_part value)) (Ok v)
+rows_shown who whose e E columns second until value r v is =
+    subst (λ part. IsShown (state_of E) who buffer (asked who opened buffer (range_part part)) (Ok v)) (sym (whole_range second until value r))
+    (shown_between who whose e E columns r.from_first.octets r.to_last.octets second until r.from_first.names r.to_last.names v is)
 
 -- a length below 65,536 takes at most three bytes
 pub short_three : (n : ℕ) → n < 65536 → length (short_length n) ≤ 3
@@ -225,18 +224,18 @@ module _ (v : Value) (rows : List Row) (fits : Fits v) (few : length (canonical 
   pub encoded : IsEncoded (canonical v) rows
   encoded = (v, is_spelled v fits, profile)
 
-  pub serves_rows : (E : List Event) → columns_after E ≡ first_columns → (plan : PlanValue) → KnowsSecret plan E → (second : ℕ) (value : Value) → IsRange second value
-      → IsTable (map (cells (columns_after E)) (in_range 0 second LAST_SECOND (buffer_after E))) v → Serves FindsMemory E (session plan.client) (buffer_bytes value) (sent (session plan.client) opened invoke v)
-  serves_rows E columns plan h second value r is =
-      serves_get plan.client None E buffer (range_part value) (get_read second value r) v (rows_shown plan.client h.whose h.client E columns second value r v is) sendable
+  pub serves_rows : (E : List Event) → columns_after E ≡ first_columns → (plan : PlanValue) → KnowsSecret plan E → (second until : ℕ) (value : Value) → IsRange second until value
+      → IsTable (map (cells (columns_after E)) (in_range 0 second until (buffer_after E))) v → Serves FindsMemory E (session plan.client) (buffer_bytes value) (sent (session plan.client) opened invoke v)
+  serves_rows E columns plan h second until value r is =
+      serves_get plan.client None E buffer (range_part value) (get_read second until value r) v (rows_shown plan.client h.whose h.client E columns second until value r v is) sendable
 
 range_short : (first last : List ℕ) → length first ≡ 12 → length last ≡ 12 → length (buffer_bytes (range (octet_string first) (octet_string last))) ≤ 125
 unfolding short_length
 range_short first last one two =
     rw (one, two) (omega (arith, one, two, length-append first (9 ∷ 12 ∷ (last ++ 1 ∷ 0 ∷ [])), length-append last (1 ∷ 0 ∷ [])))
 
-pub buffer_short : (second : ℕ) (value : Value) → IsRange second value → length (buffer_bytes value) ≤ 125
-buffer_short second value r = subst (λ v. length (buffer_bytes v) ≤ 125) (sym (whole_range second value r)) (range_short r.from_first.octets r.to_last.octets r.from_first.names.size r.to_last.names.size)
+pub buffer_short : (second until : ℕ) (value : Value) → IsRange second until value → length (buffer_bytes value) ≤ 125
+buffer_short second until value r = subst (λ v. length (buffer_bytes v) ≤ 125) (sym (whole_range second until value r)) (range_short r.from_first.octets r.to_last.octets r.from_first.names.size r.to_last.names.size)
 
 -- ---- the release
 

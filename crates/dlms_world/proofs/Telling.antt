@@ -16,7 +16,7 @@ use Rattle.dlms_data.specs.declared.descriptor.Descriptor.{Descriptor}
 use Rattle.dlms_data.specs.Writing.{canonical}
 use Rattle.dlms_data.proofs.WholeLaws.{reads_one_value}
 use Rattle.dlms_data.proofs.Written.{is_spelled}
-use Rattle.dlms_headend.specs.Asking.{PlanValue, IsBufferRequest, IsRange, buffer, capture_objects, columns_bytes, first_second, invoke, association_bytes}
+use Rattle.dlms_headend.specs.Asking.{PlanValue, IsBufferRequest, IsRange, buffer, capture_objects, columns_bytes, first_second, invoke, association_bytes, last_second}
 use Rattle.dlms_headend.specs.Columns.{TellsBy, TellsColumns, columns}
 use Rattle.dlms_headend.proofs.Told.{rows_before}
 use Rattle.dlms_world.specs.Agree.{AreAmong}
@@ -43,15 +43,14 @@ use Rattle.dlms_world.proofs.ValuesAsRows.{table_is_profile, range_has}
 use Rattle.dlms_world.proofs.Gets.{Gave, range_part, gets_tell, table_shown, columns_tell, no_data, read_result}
 use Rattle.dlms_world.proofs.Sized.{association_sized}
 use Rattle.dlms_world.proofs.Following.{IsSent, follow, block_read, given_blocks, spells_data, more_data, not_both, not_named, not_accepted, has_count}
-use Rattle.dlms_data.specs.declared.date_time.TheConstants.{LAST_SECOND}
 
 -- a value that shows the rows, and is what the poll read
-told_value : (plan : PlanValue) (E : List Event) (s : SessionValue) (o : Outcome) (value : Value) (r : IsRange (first_second plan.after) value) (g : Gave buffer (range_part value) E s o) (rows : List Row) → IsProfile g.v rows → rows ≡ rows_asked plan E
+told_value : (plan : PlanValue) (E : List Event) (s : SessionValue) (o : Outcome) (value : Value) (r : IsRange (first_second plan.after) (last_second plan.until) value) (g : Gave buffer (range_part value) E s o) (rows : List Row) → IsProfile g.v rows → rows ≡ rows_asked plan E
 told_value plan E s o value r g rows is =
-    table_is_profile (columns_after E) (rows_between (clock_place (columns_after E)) (first_second plan.after) LAST_SECOND (buffer_after E)) g.v rows (range_has (clock_place (columns_after E)) (first_second plan.after) LAST_SECOND E)
-    (table_shown E s (first_second plan.after) value o r g) is
+    table_is_profile (columns_after E) (rows_between (clock_place (columns_after E)) (first_second plan.after) (last_second plan.until) (buffer_after E)) g.v rows (range_has (clock_place (columns_after E)) (first_second plan.after) (last_second plan.until) E)
+    (table_shown E s (first_second plan.after) (last_second plan.until) value o r g) is
 
-told_encoding : (plan : PlanValue) (E : List Event) (s : SessionValue) (o : Outcome) (value : Value) (r : IsRange (first_second plan.after) value) (g : Gave buffer (range_part value) E s o) (rows : List Row) → IsEncoded (canonical g.v) rows → rows ≡ rows_asked plan E
+told_encoding : (plan : PlanValue) (E : List Event) (s : SessionValue) (o : Outcome) (value : Value) (r : IsRange (first_second plan.after) (last_second plan.until) value) (g : Gave buffer (range_part value) E s o) (rows : List Row) → IsEncoded (canonical g.v) rows → rows ≡ rows_asked plan E
 told_encoding plan E s o value r g rows is =
     let bytes : List ℕ = canonical g.v in
     let same = reads_one_value bytes bytes [] bytes [] is.0 g.v (sym (append-nil bytes)) (sym (append-nil bytes)) is.1 (is_spelled g.v g.sendable.fits) in
@@ -75,7 +74,7 @@ gave_success d part E s o g given =
 
 -- the GET of the rows comes after these APDUs
 module _ (plan : PlanValue) (opening : List (List ℕ)) (only : HasBlocks plan.columns opening 0 []) (answer : List ℕ) (tail : List (List ℕ)) (rows : List Row) where
-  first_get : (apdu : List ℕ) → Asks plan opening apdu → IsBufferRequest plan.after apdu
+  first_get : (apdu : List ℕ) → Asks plan opening apdu → IsBufferRequest plan.after plan.until apdu
   first_get apdu (associates none is) = absurd (empty (sym none ∙ only.are))
     where
       empty : [] ≡ only.response ∷ (only.names ++ only.blocks) → ⊥
@@ -91,11 +90,11 @@ module _ (plan : PlanValue) (opening : List (List ℕ)) (only : HasBlocks plan.c
 
   -- the GET, its answer, and the exchanges after it
   module _ (x : Exchange) (served : List Exchange) (s last : SessionValue) (size : HasSize s.opened) (serves : Does x.choice x.before s x.apdu x.outcome) (chain : InTurn x.outcome.own (map Asked served) last) (asks : Asks plan opening x.apdu) where
-    request : IsBufferRequest plan.after x.apdu
+    request : IsBufferRequest plan.after plan.until x.apdu
     request = first_get x.apdu asks
 
     gave : GivesData x.outcome.answer → Gave buffer (range_part request.value) x.before s x.outcome
-    gave given = gets_tell x.before s request.value (first_second plan.after) request.wanted x.outcome given x.choice (subst (λ a. Does x.choice x.before s a x.outcome) request.is serves)
+    gave given = gets_tell x.before s request.value (first_second plan.after) (last_second plan.until) request.wanted x.outcome given x.choice (subst (λ a. Does x.choice x.before s a x.outcome) request.is serves)
 
     got_success : GivesData x.outcome.answer → is_success x.outcome.answer ≡ true
     got_success given = gave_success buffer (range_part request.value) x.before s x.outcome (gave given) given
@@ -226,11 +225,11 @@ module _ (plan : PlanValue) (answer : List ℕ) (tail : List (List ℕ)) (rows :
   -- these were served before it
   from_get : (opening : List (List ℕ)) (only : HasBlocks plan.columns opening 0 []) (firsts : List Exchange) (s : SessionValue) → HasSize s.opened → (blocks : List (List ℕ)) (served : List Exchange) → AreBlocks 0 blocks n joined → InTurn s (map Asked served) last
       → Talks plan opening served (blocks ++ answer ∷ tail)
-      → ((x : Exchange) (rest : List Exchange) → served ≡ x ∷ rest → IsBufferRequest plan.after x.apdu → is_success x.outcome.answer ≡ true → rows ≡ rows_asked plan x.before → plan.columns ≡ AsksColumns → IsNamed plan (firsts ++ served) rows) → IsTold plan (firsts ++ served) rows
+      → ((x : Exchange) (rest : List Exchange) → served ≡ x ∷ rest → IsBufferRequest plan.after plan.until x.apdu → is_success x.outcome.answer ≡ true → rows ≡ rows_asked plan x.before → plan.columns ≡ AsksColumns → IsNamed plan (firsts ++ served) rows) → IsTold plan (firsts ++ served) rows
   from_get opening only firsts s size [] [] come chain talk by_name = absurd talk
   from_get opening only firsts s size [] (x ∷ served) come chain talk by_name =
       let given : GivesData x.outcome.answer = subst GivesData (sym talk.1) (spells_data n joined (response_at answer) rows spelled) in
-      let asked : IsBufferRequest plan.after x.apdu = first_get plan opening only answer tail rows x.apdu talk.0 in
+      let asked : IsBufferRequest plan.after plan.until x.apdu = first_get plan opening only answer tail rows x.apdu talk.0 in
       let success : is_success x.outcome.answer ≡ true = got_success plan opening only answer tail rows x served s last size chain.0 chain.1 talk.0 given in
       let are : rows ≡ rows_asked plan x.before = at_once plan opening only answer tail rows x served s last size chain.0 chain.1 talk.0 n joined come.0 come.1 talk.1 spelled given in
       record {
@@ -244,7 +243,7 @@ module _ (plan : PlanValue) (answer : List ℕ) (tail : List (List ℕ)) (rows :
   from_get opening only firsts s size (b ∷ blocks) [] come chain talk by_name = absurd talk
   from_get opening only firsts s size (b ∷ blocks) (x ∷ served) come chain talk by_name =
       let given : GivesData x.outcome.answer = subst GivesData (sym talk.1) (more_data 0 (response_at b) come.0 come.2) in
-      let asked : IsBufferRequest plan.after x.apdu = first_get plan opening only answer tail rows x.apdu talk.0 in
+      let asked : IsBufferRequest plan.after plan.until x.apdu = first_get plan opening only answer tail rows x.apdu talk.0 in
       let success : is_success x.outcome.answer ≡ true = got_success plan opening only answer tail rows x served s last size chain.0 chain.1 talk.0 given in
       let are : rows ≡ rows_asked plan x.before = in_parts plan opening only answer tail rows x served s last size chain.0 chain.1 talk.0 b blocks n joined talk.1 come spelled talk.2 given in
       record {

@@ -28,7 +28,7 @@ use Rattle.dlms_world.proofs.Keeping.{settles_on, whose_after, Linked, linked, S
 use Rattle.dlms_world.proofs.Ending.{is_told, is_settled}
 use Rattle.dlms_world.proofs.Telling.{tells}
 use Rattle.dlms_world.proofs.Lawful.{legal_after, none_legal, beginning_legal}
-use Rattle.dlms_world.proofs.SameAsMeter.{whole_range}
+use Rattle.dlms_world.proofs.SameAsMeter.{due_range}
 use Rattle.dlms_state.proofs.Limits.{IsWithinLimits-legal}
 use Rattle.dlms_state.specs.Refusal.{IsLegal}
 
@@ -219,7 +219,7 @@ told_from start w run done =
     let brought = is_brought w.plan.client w all done in
     let told = brought.told in
     let legal : IsLegal told.get.before = beginning_legal told.get.before (events_in w.memory) (through told.get.before (settled_in w.memory) (events_in w.memory) brought.settled (settled_begins w.memory)) all.legal in
-    record { get = told.get; took = told.took; asked = told.asked; are = told.are ∙ whole_range (first_second w.plan.after) told.get.before (IsWithinLimits-legal told.get.before legal) }
+    record { get = told.get; took = told.took; asked = told.asked; are = told.are ∙ due_range (first_second w.plan.after) w.plan.until told.get.before (IsWithinLimits-legal told.get.before legal) }
 
 pub polls_are_told : PollsAreTold
 polls_are_told plan w run done = told_from (start_of plan) w run done

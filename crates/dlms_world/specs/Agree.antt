@@ -32,7 +32,7 @@ Rise (row ∷ rows) = IsBefore row rows × Rise rows
 pub record BringsBuffer (plan : PlanValue) (served : List Exchange) (rows : List Row) : Type 0 where
   pub get : Exchange
   pub took : Contains served get
-  pub asked : IsBufferRequest plan.after get.apdu
+  pub asked : IsBufferRequest plan.after plan.until get.apdu
   pub are : rows ≡ rows_due plan get.before
 
 -- a poll that is done has exactly the rows of the buffer at its GET

@@ -125,6 +125,7 @@ plan_of who terms = record {
   client = who;
   secret = unwrap_or terms.secret [];
   after = terms.after;
+  until = terms.until;
   columns = terms.columns;
 }
 
@@ -206,6 +207,7 @@ abbrev pub terms_by : PlanValue → TermsValue
 terms_by plan = record {
   secret = sent_secret plan.client plan.secret;
   after = plan.after;
+  until = plan.until;
   columns = plan.columns;
 }
 
@@ -221,7 +223,7 @@ pub record CarriedPoll (plan : PlanValue) (found : List Row) (m m' : MeterWorld)
   pub delivers : Delivers (passages (carried_in poll.shares)) (served_to plan.client m m' life)
 
 -- a poll that knows its client's secret and trusts the columns brings that row
-abbrev pub CanBeCarried : Option ℕ → Type 0
-CanBeCarried after = (plan : PlanValue) → KnowsSecret plan [] → plan.after ≡ after
-    → plan.columns ≡ Trusted
-    → (m : MeterWorld) × CarriedPoll plan (first_rows after) first_captured m
+abbrev pub CanBeCarried : (after until : Option ℕ) → Type 0
+CanBeCarried after until = (plan : PlanValue) → KnowsSecret plan [] → plan.after ≡ after
+    → plan.until ≡ until → plan.columns ≡ Trusted
+    → (m : MeterWorld) × CarriedPoll plan (first_rows after until) first_captured m

@@ -41,7 +41,7 @@ pub record IsNamed (plan : PlanValue) (served : List Exchange) (rows : List Row)
   pub more : List Exchange
   pub are : served ≡ association ∷ first ∷ get ∷ (between ++ last ∷ more)
   pub asked_first : first.apdu ≡ columns_bytes
-  pub asked : IsBufferRequest plan.after get.apdu
+  pub asked : IsBufferRequest plan.after plan.until get.apdu
   pub asked_last : last.apdu ≡ columns_bytes
   pub success_first : is_success first.outcome.answer ≡ true
   pub success : is_success get.outcome.answer ≡ true

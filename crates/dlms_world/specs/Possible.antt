@@ -1,10 +1,10 @@
 -- What can happen in the world, so that the laws of polls, and of those that are done, speak of something.
-use Rattle.std.specs.Prelude.{◌≡◌, ℕ, nat_le, true, if◌then◌else◌, List, [], ◌∷◌, Option, Some}
+use Rattle.std.specs.Prelude.{◌≡◌, ℕ, nat_le, true, if◌then◌else◌, List, [], ◌∷◌, Option, Some, ◌&&◌}
 use Rattle.dlms_classes.specs.Secrets.{secret_of}
 use Rattle.dlms_data.specs.Building.{IsTime}
 use Rattle.dlms_data.specs.Value.{Value}
 use Rattle.dlms_frame.specs.declared.client.Client.{Client}
-use Rattle.dlms_headend.specs.Asking.{PlanValue, first_second}
+use Rattle.dlms_headend.specs.Asking.{PlanValue, first_second, last_second}
 use Rattle.dlms_headend.specs.Merged.{merged}
 use Rattle.dlms_headend.specs.declared.row.Row.{Row}
 use Rattle.dlms_headend.specs.declared.stage.Course.TheVariants.{Ready, Running, Done}
@@ -46,17 +46,18 @@ quarter = Moment 900 ∷ []
 abbrev pub first_row : Row
 first_row = record { clock = 900; registers = 0 ∷ 0 ∷ 0 ∷ [] }
 
--- that row, if it is not before the second that is asked from
-abbrev pub first_rows : Option ℕ → List Row
-first_rows after = if nat_le (first_second after) 900 then first_row ∷ [] else []
+-- that row, if it is between the seconds that are asked for
+abbrev pub first_rows : (after until : Option ℕ) → List Row
+first_rows after until =
+    if nat_le (first_second after) 900 && nat_le 900 (last_second until) then first_row ∷ [] else []
 
 -- From the first world of each plan that has its client's first secret, and asks for the columns or not: the meter captures that
 -- row, the poll can be done with it, and the file has it after a merge.
-abbrev pub CanBeDone : Option ℕ → Type 0
-CanBeDone after =
-    (plan : PlanValue) → KnowsSecret plan [] → plan.after ≡ after
-    → (w : World) × Run (first_world plan) w × IsDone plan quarter (first_rows after) w
-    × (w.file ≡ first_rows after)
+abbrev pub CanBeDone : (after until : Option ℕ) → Type 0
+CanBeDone after until =
+    (plan : PlanValue) → KnowsSecret plan [] → plan.after ≡ after → plan.until ≡ until
+    → (w : World) × Run (first_world plan) w × IsDone plan quarter (first_rows after until) w
+    × (w.file ≡ first_rows after until)
 
 -- each row's second has a date-time, as each second of the clock has (`seconds_have_times`)
 abbrev pub HaveTimes : List Row → Type 0
@@ -71,10 +72,10 @@ pub record HasAnswer (plan : PlanValue) (E : List Event) : Type 0 where
 
 -- Wherever a run has come to, such a poll can be done, of the same client or of another, with all rows that are due, and they
 -- are merged into the file: at a meter that still has all its events.
-abbrev pub CanBeDoneAgain : Option ℕ → Type 0
-CanBeDoneAgain after =
+abbrev pub CanBeDoneAgain : (after until : Option ℕ) → Type 0
+CanBeDoneAgain after until =
     (first plan : PlanValue) (w : World) → Run (first_world first) w → plan.after ≡ after
-    → HasAnswer plan (events_in w.memory)
+    → plan.until ≡ until → HasAnswer plan (events_in w.memory)
     → (now : World) × Run w now × IsDone plan (events_in w.memory)
     (rows_due plan (events_in w.memory)) now × (now.file ≡ merged w.file now.rows)
 

@@ -17,12 +17,12 @@ Talks plan before [] (apdu ∷ taken) = ⊥
 Talks plan before (x ∷ served) (apdu ∷ taken) = Asks plan before x.apdu × (x.outcome.answer ≡ apdu)
     × Talks plan (before ++ apdu ∷ []) served taken
 
--- The rows are those that the buffer had when the GET was taken, from the plan's second on; its answer is one of success or data.
+-- The rows are those that the buffer had when the GET was taken, between the plan's seconds; its answer is one of success or data.
 -- For a poll that asks for the columns, they are stated, too.
 pub record IsTold (plan : PlanValue) (served : List Exchange) (rows : List Row) : Type 0 where
   pub get : Exchange
   pub took : Contains served get
-  pub asked : IsBufferRequest plan.after get.apdu
+  pub asked : IsBufferRequest plan.after plan.until get.apdu
   pub success : is_success get.outcome.answer ≡ true
   pub are : rows ≡ rows_asked plan get.before
   pub names : plan.columns ≡ AsksColumns → IsNamed plan served rows

@@ -3,7 +3,7 @@ use Rattle.std.specs.Prelude.{◌≡◌, ℕ, false, List, [], ◌∷◌, ◌++�
 use Rattle.dlms_apdu.specs.Forms.{ResponseForm, get_data, get_block}
 use Rattle.dlms_apdu.specs.Reading.{response_at}
 use Rattle.dlms_apdu.specs.declared.fault.Refusal.{Refusal}
-use Rattle.dlms_headend.specs.Asking.{PlanValue, first_second}
+use Rattle.dlms_headend.specs.Asking.{PlanValue, first_second, last_second}
 use Rattle.dlms_headend.specs.declared.row.Row.{Row}
 use Rattle.dlms_headend.specs.declared.stage.Course.{Course}
 use Rattle.dlms_headend.specs.declared.stage.Course.TheVariants.{Ready}
@@ -21,7 +21,6 @@ use Rattle.dlms_state.specs.declared.event.Event.{Event}
 use Rattle.dlms_store.specs.World.{StoreWorld as Memory, StoreStep, StoreRun}
 use Rattle.dlms_store.specs.World.StoreWorld.{Runs, InDoubt, Rests}
 use Rattle.dlms_store.specs.World.StoreStep.{Adds, AddsBehind, Settles, Refuses, Fails, Closes, ClosesInDoubt, Stops, Opens, OpenFails}
-use Rattle.dlms_data.specs.declared.date_time.TheConstants.{LAST_SECOND}
 
 pub record World : Type 0 where
   -- the poller's link at both its ends, the line between them, and what went over it in this connection
@@ -118,23 +117,24 @@ rows_since None first rows = []
 rows_since (Some place) first rows =
     filter (λ row. nat_le first (slice_index row.values.items place)) rows
 
--- the buffer's rows from this second on, to the last of the clock
-abbrev pub rows_from : ℕ → List Event → List Row
-rows_from second E = map reading_of
-    (rows_between (clock_place (columns_after E)) second LAST_SECOND (buffer_after E))
+-- the buffer's rows between two seconds, both included
+abbrev pub rows_from : (first last : ℕ) → List Event → List Row
+rows_from first last E = map reading_of
+    (rows_between (clock_place (columns_after E)) first last (buffer_after E))
 
--- all of its rows from this second on
-abbrev pub all_rows_from : ℕ → List Event → List Row
-all_rows_from second E = map reading_of
-    (rows_since (clock_place (columns_after E)) second (buffer_after E))
+-- all of its rows from this second on; only those until another one, if it is given
+abbrev pub all_rows_from : ℕ → Option ℕ → List Event → List Row
+all_rows_from first None E = map reading_of
+    (rows_since (clock_place (columns_after E)) first (buffer_after E))
+all_rows_from first (Some last) E = rows_from first last E
 
 -- the rows that a poll by this plan asks for, if the meter takes its GET after these events
 abbrev pub rows_asked : PlanValue → List Event → List Row
-rows_asked plan E = rows_from (first_second plan.after) E
+rows_asked plan E = rows_from (first_second plan.after) (last_second plan.until) E
 
--- what it is to bring: the rows whose clock is at least the plan's second
+-- what it is to bring: the rows whose clock is at least the plan's first second, and at most its last one, if it has one
 abbrev pub rows_due : PlanValue → List Event → List Row
-rows_due plan E = all_rows_from (first_second plan.after) E
+rows_due plan E = all_rows_from (first_second plan.after) plan.until E
 
 -- ---- the beginning
 

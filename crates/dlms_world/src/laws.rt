@@ -1,7 +1,9 @@
 //! Laws over whole runs of the world. They call nothing, but for what one of them needs to know of the
 //! clock's seconds.
 
-ghost use Rattle.std.specs.Prelude.{◌≡◌, ◌≤◌, ◌<◌, ◌^◌, List, ℕ, All, IfSome};
+ghost use Rattle.std.specs.Prelude.{◌≡◌, ◌≤◌, ◌<◌, ◌^◌, List, ℕ, All, None};
+ghost use Rattle.dlms_data.specs.declared.date_time.TheConstants.{LAST_SECOND};
+ghost use Rattle.dlms_headend.specs.Asking.{AreSeconds};
 ghost use Rattle.dlms_data.specs.Building.{IsTime};
 ghost use Rattle.dlms_data.specs.Value.{Value};
 ghost use Rattle.dlms_link.specs.Server.{ServerRecord};
@@ -68,7 +70,7 @@ pub fn answers_tell_rows()
 /// No row of a legal list is past the clock's last second: the rows of the poll's range are all rows from its first second on.
 pub fn a_range_to_the_last_second_has_all_rows()
     ensures { (second : ℕ) (E : List Event) → IsLegal E
-        → rows_from second E ≡ all_rows_from second E }
+        → rows_from second LAST_SECOND E ≡ all_rows_from second None E }
 {}
 
 /// The meter of this world handles a frame as the meter's own definition says.
@@ -95,18 +97,18 @@ pub fn a_poll_can_begin()
     ensures { CanBegin }
 {}
 
-/// A poll can be done, of each client that has a secret, from whatever second of the clock on it asks, with the columns and without:
+/// A poll can be done, of each client that has a secret, between whatever seconds of the clock it asks, with the columns and without:
 /// at a formatted meter that has captured its first row, with that row; and wherever a run has come to, with all rows that are due
 /// then, in as many segments and blocks as they take. That row can also be brought over a carrier of whole APDUs.
-pub fn a_poll_can_be_done(after: Option<u32>)
-    requires { IfSome after (λ second. second ≤ LAST_SECOND) }
-    ensures first { CanBeDone after }
-    ensures again { CanBeDoneAgain after }
-    ensures carried { CanBeCarried after }
+pub fn a_poll_can_be_done(after: Option<u32>, until: Option<u32>)
+    requires { AreSeconds after until }
+    ensures first { CanBeDone after until }
+    ensures again { CanBeDoneAgain after until }
+    ensures carried { CanBeCarried after until }
 {
     seconds_have_times(900);
     seconds_have_times(after.unwrap_or(0));
-    seconds_have_times(LAST_SECOND);
+    seconds_have_times(until.unwrap_or(LAST_SECOND));
 }
 
 /// Each second of the clock has a date-time.

@@ -209,6 +209,7 @@ impl<'h> HeadendBench<'h> {
             client,
             secret,
             after,
+            until: None,
             columns,
         };
         self.poller = Some(Poller::new(self.heap, plan));

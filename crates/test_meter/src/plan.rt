@@ -11,7 +11,8 @@ pub const SECRET: &[u8] = b"12345678";
 
 /// What management polls with its first secret, from a second of the clock on.
 pub fn managements_plan(after: Option<u32>, columns: Columns) -> Plan
-    ensures { result.after ≡ after }
+    ensures second { result.after ≡ after }
+    ensures whole { result.until ≡ None }
 {
     let mut secret = ArrayVec::new();
     let _fits = secret.try_extend_from_slice(SECRET);
@@ -19,6 +20,7 @@ pub fn managements_plan(after: Option<u32>, columns: Columns) -> Plan
         client: Client::Management,
         secret,
         after,
+        until: None,
         columns,
     }
 }

@@ -293,6 +293,7 @@ fn a_meter_is_polled(rt: HostRuntime) {
             client: Client::Management,
             deadline: 600,
             retries: 2,
+            until: None,
             ahead: Some(60),
             strict: false,
             expected: &expected,

@@ -211,6 +211,7 @@ fn a_head_end_repeats_what_is_out(rt: HostRuntime) {
         client: Client::Public,
         secret: ArrayVec::new(),
         after: None,
+        until: None,
         columns: Columns::Asked,
     };
     let plays = [Play::Bytes(&UA), Play::Nothing];

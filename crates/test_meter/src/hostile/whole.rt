@@ -45,7 +45,8 @@ const READERS_SECRET: &[u8] = b"23456789";
 
 /// The reader's plan, with its first secret.
 fn readers_plan() -> Plan
-    ensures { result.after ≡ None }
+    ensures second { result.after ≡ None }
+    ensures whole { result.until ≡ None }
 {
     let mut secret = ArrayVec::new();
     let _fits = secret.try_extend_from_slice(READERS_SECRET);
@@ -53,6 +54,7 @@ fn readers_plan() -> Plan
         client: Client::Reader,
         secret,
         after: None,
+        until: None,
         columns: Columns::Trusted,
     }
 }
@@ -66,7 +68,8 @@ struct Polling {
 
 impl Polling {
     fn new(alloc: Global, plan: Plan) -> Polling
-        requires { plan.after ≡ None }
+        requires second { plan.after ≡ None }
+        requires whole { plan.until ≡ None }
     {
         let mut poller = Poller::new(alloc, plan);
         let next = poller.next();

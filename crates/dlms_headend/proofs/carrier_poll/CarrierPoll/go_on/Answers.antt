@@ -16,5 +16,5 @@ returns-in-Some g c =
     let after : CarrierPollValue g.row.C.Denot = record { terms = terms_of i.terms; carrier = c.give-event.new.self; course = i.course; talk = i.talk } in
     subst (λ (at : CarrierPollValue g.row.C.Denot). (apdus : List (List ℕ)) → FitsTalk at.terms.columns at.talk apdus → GoesOn g.C.Carrier.steps at apdus (Ok Nothing) after) c.self.view_is
     (λ apdus fits. asked_next g.C.Carrier.steps before after c.in-Some.request.items c.give-event.result c.give-event.new.self (Ok Nothing) apdus fits
-    (subst (λ (stage : Stage). IsDueAt (requests_of before.terms).association before.terms.after stage c.in-Some.request.items) c.stage-stage.ensures c.in-Some.ensures.due)
+    (subst (λ (stage : Stage). IsDueAt (requests_of before.terms).association before.terms.after before.terms.until stage c.in-Some.request.items) c.stage-stage.ensures c.in-Some.ensures.due)
     (subst (λ (bytes : List ℕ). g.C.Carrier.steps i.carrier (Give bytes) c.give-event.result c.give-event.new.self) c.as_slice.ensures.value c.give-event.ensures) refl refl)
