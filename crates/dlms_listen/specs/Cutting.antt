@@ -3,6 +3,8 @@ use Rattle.std.specs.Prelude.{◌≡◌, ℕ, List, [], ◌∷◌, ◌++◌, Opt
 use Rattle.std.specs.List.{flat_map}
 use Rattle.dlms_frame.specs.Frame.{Parts}
 use Rattle.dlms_frame.specs.Stream.{Fits}
+use Rattle.dlms_telegram.specs.Telegram.{nothing}
+use Rattle.dlms_telegram.specs.declared.reader.Found.TheVariants.{Nothing}
 use Rattle.dlms_wrapper.specs.Message as wrapper
 use Rattle.dlms_listen.specs.Joined.{Blocked, Segmented}
 use Rattle.dlms_listen.specs.Line.{Joined, Line, Takes, apdu_at, apdu_in, with_frame, with_message}
@@ -50,3 +52,4 @@ pub record IsStart (of : Option Carrier) (line : Line) : Type 0 where
   pub messages : line.messages ≡ record { limit = 1024; bytes = []; message = None }
   pub segments : line.segments ≡ record { octets = []; ends = None }
   pub blocks : line.blocks ≡ record { octets = []; last = 0 }
+  pub telegrams : line.telegrams ≡ nothing Nothing

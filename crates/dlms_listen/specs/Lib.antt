@@ -4,3 +4,4 @@ pub mod Line
 pub mod Cutting
 pub mod Sender
 pub mod Receiving
+pub mod Unsealing

@@ -1,20 +1,23 @@
 -- What a listener does with the octets of a line.
-use Rattle.std.specs.Prelude.{◌≡◌, ◌⊎◌, ◌==◌, if◌then◌else◌, ℕ, Bool, true, false, List, [], ◌∷◌, ◌++◌, Option, Some, None, IfSome, IfNone, option_map}
+use Rattle.std.specs.Prelude.{◌≡◌, ◌⊎◌, ◌==◌, ◌||◌, if◌then◌else◌, ℕ, Bool, true, false, List, [], ◌∷◌, ◌++◌, Option, Some, None, IfSome, IfNone, option_map}
 use Rattle.std.specs.Option.{option_or}
 use Rattle.dlms_frame.specs.Frame.{Parts}
 use Rattle.dlms_frame.specs.Stream as frames
+use Rattle.dlms_telegram.specs.Telegram as telegrams
+use Rattle.dlms_telegram.specs.declared.reader.Found.TheVariants as outcome
+use Rattle.dlms_telegram.specs.declared.reader.Found as telegram_found
 use Rattle.dlms_wrapper.specs.Message as wrapper
 use Rattle.dlms_wrapper.specs.Stream as messages
 use Rattle.dlms_wrapper.specs.declared.fault.HeaderFault.{HeaderFault}
 use Rattle.dlms_listen.specs.Joined.{Blocked, Outcome, Segment, Segmented, block_in, kept_after, outcome_of, segment_of}
 use Rattle.dlms_listen.specs.declared.carrier.Carrier.{Carrier}
-use Rattle.dlms_listen.specs.declared.carrier.Carrier.TheVariants.{Hdlc, Wrapper}
+use Rattle.dlms_listen.specs.declared.carrier.Carrier.TheVariants.{Hdlc, Wrapper, Telegrams}
 use Rattle.dlms_listen.specs.declared.fault.Skip.{Skip}
 use Rattle.dlms_listen.specs.declared.fault.Skip.TheVariants as skip
 use Rattle.dlms_listen.specs.declared.listener.Found.{Found}
 use Rattle.dlms_listen.specs.declared.listener.Found.TheVariants as place
 
--- the octets of a line up to now: those of frames and messages that have not ended, the segments and blocks of APDUs that have not,
+-- the octets of a line up to now: those of frames, messages and telegrams that have not ended, the segments and blocks of APDUs that have not,
 -- where the APDU is that the last call completed, and what it left out
 pub record Line : Type 0 where
   pub carrier : Option Carrier
@@ -22,6 +25,7 @@ pub record Line : Type 0 where
   pub messages : messages.Kept
   pub segments : Segmented
   pub blocks : Blocked
+  pub telegrams : telegrams.Kept
   pub found : Found
   pub skipped : Option Skip
 
@@ -87,6 +91,7 @@ pub record TakesFrames (old : Line) (taken : List ℕ) (new : Line) : Type 0 whe
   pub carrier : new.carrier ≡ Some Hdlc
   pub frames : frames.Takes old.frames.bytes taken new.frames.frame new.frames.bytes
   pub messages : new.messages ≡ old.messages
+  pub telegrams : new.telegrams ≡ old.telegrams
   pub joined : joined_in new ≡ with_frame old.segments old.blocks new.frames.frame
 
 -- The octets behind a refused header are taken and not read. The call that reads the header reports the cause.
@@ -99,6 +104,7 @@ SkipsHeader old read new =
 pub record TakesMessages (old : Line) (taken : List ℕ) (new : Line) : Type 0 where
   pub carrier : new.carrier ≡ Some Wrapper
   pub frames : new.frames ≡ old.frames
+  pub telegrams : new.telegrams ≡ old.telegrams
   pub limit : new.messages.limit ≡ old.messages.limit
   pub read : List ℕ
   pub left : List ℕ
@@ -113,9 +119,38 @@ pub record TakesMessages (old : Line) (taken : List ℕ) (new : Line) : Type 0 w
   pub header : IfNone new.messages.message (messages.IsRefused new.messages.limit new.messages.bytes → SkipsHeader old read new)
   pub quiet : IfNone new.messages.message (¬ messages.IsRefused new.messages.limit new.messages.bytes → new.skipped ≡ None)
 
--- the carrier of a line, which the first octet says if none is given: a message of the wrapper begins with 0 (IEC 62056-47)
+-- the telegram that was found, in clear or ciphered
+abbrev pub telegram_at : telegram_found.Found → List ℕ → Option (List ℕ)
+telegram_at outcome.Nothing octets = None
+telegram_at outcome.Telegram octets = Some octets
+telegram_at outcome.Sealed octets = Some octets
+telegram_at outcome.WrongCheck octets = None
+telegram_at outcome.Long octets = None
+
+abbrev pub telegram_in : telegrams.Kept → Option (List ℕ)
+telegram_in kept = telegram_at kept.found kept.octets
+
+-- why a telegram is left out
+abbrev pub skip_of : telegram_found.Found → Option Skip
+skip_of outcome.Nothing = None
+skip_of outcome.Telegram = None
+skip_of outcome.Sealed = None
+skip_of outcome.WrongCheck = Some skip.WrongCheck
+skip_of outcome.Long = Some skip.LongTelegram
+
+-- what a call did with the octets that it took of telegrams
+pub record TakesTelegrams (old : Line) (taken : List ℕ) (new : Line) : Type 0 where
+  pub carrier : new.carrier ≡ Some Telegrams
+  pub takes : telegrams.Takes old.telegrams taken new.telegrams
+  pub frames : new.frames ≡ old.frames
+  pub messages : new.messages ≡ old.messages
+  pub joined : joined_in new ≡ nothing_found old.segments old.blocks (skip_of new.telegrams.found)
+
+-- The carrier of a line, which the first octet says if none is given: a message of the wrapper begins with 0 (IEC 62056-47), a telegram
+-- with / (IEC 62056-21), a ciphered one with DB (IEC 62056-5-3).
 abbrev pub carrier_of : ℕ → Carrier
-carrier_of first = if first == 0 then Wrapper else Hdlc
+carrier_of first =
+    if first == 0 then Wrapper else if (first == 0x2F) || (first == 0xDB) then Telegrams else Hdlc
 
 abbrev pub carrier_in : Option Carrier → List ℕ → Option Carrier
 carrier_in (Some carrier) octets = Some carrier
@@ -126,6 +161,7 @@ abbrev pub TakesBy : Option Carrier → Line → List ℕ → Line → Type 0
 TakesBy None old taken new = new ≡ record old { found = place.Nothing; skipped = None }
 TakesBy (Some Hdlc) old taken new = TakesFrames old taken new
 TakesBy (Some Wrapper) old taken new = TakesMessages old taken new
+TakesBy (Some Telegrams) old taken new = TakesTelegrams old taken new
 
 -- what a call did with the octets that it took
 abbrev pub Takes : Line → List ℕ → Line → Type 0

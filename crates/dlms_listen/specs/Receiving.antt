@@ -9,12 +9,14 @@ use Rattle.dlms_security.specs.declared.fault.UnprotectFault.TheVariants.{Anothe
 use Rattle.dlms_security.specs.declared.opening.Header.{Header}
 use Rattle.dlms_security.specs.declared.policy.Policy.{Policy}
 use Rattle.dlms_security.specs.declared.policy.Policy.TheVariants.{Authenticated, Encrypted, AuthenticatedEncrypted}
-use Rattle.dlms_listen.specs.Notification.{IsNotification, Said}
+use Rattle.dlms_listen.specs.Notification.{IsNotification, Said, said}
 use Rattle.dlms_listen.specs.declared.fault.Refusal.{Refusal}
 use Rattle.dlms_listen.specs.declared.fault.Refusal.TheVariants as refusal
 use Rattle.dlms_listen.specs.declared.counters.Sender.{Sender}
 use Rattle.dlms_listen.specs.declared.counters.TheConstants.{MOST_SENDERS}
 use Rattle.dlms_listen.specs.Sender.{Accepts, IsReplay}
+use Rattle.dlms_listen.specs.declared.receiver.Content.{Content}
+use Rattle.dlms_listen.specs.declared.receiver.Content.TheVariants as content
 use Rattle.dlms_listen.specs.declared.receiver.Seal.{Seal}
 
 -- why an APDU is no notification: by its first octet it is of another service, or its fields or its value are not those of its own
@@ -80,6 +82,11 @@ abbrev pub Contains : Option (List Station) → List ℕ → Said → Option Sea
 Contains keys apdu n None = (kind_of apdu ≡ None) × (keys ≡ None) × IsNotification apdu n
 Contains keys apdu n (Some seal) =
     (plain : List ℕ) × IsSome (kind_of apdu) × (opened keys apdu ≡ Ok (record { plain = plain; seal = seal })) × IsNotification plain n
+
+-- what is received from an APDU is a notification
+abbrev pub ContainsNotification : Option (List Station) → List ℕ → Content → Option Seal → Type 0
+ContainsNotification keys apdu (content.Notification n) seal = Contains keys apdu (said n) seal
+ContainsNotification keys apdu (content.Telegram t) seal = ⊥
 
 -- the counter of a seal is accepted; what is in clear has none
 abbrev pub AcceptsSeal : Option Seal → List Sender → List Sender → Type 0

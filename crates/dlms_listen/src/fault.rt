@@ -16,6 +16,10 @@ pub enum Skip {
     TornBlocks,
     /// Segments or blocks that join to a longer APDU than is kept.
     Long,
+    /// A telegram with a wrong check.
+    WrongCheck,
+    /// A longer telegram than is kept.
+    LongTelegram,
     /// The stream has no further messages of the wrapper, for this reason.
     Header(HeaderFault),
 }

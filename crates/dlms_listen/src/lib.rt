@@ -12,10 +12,12 @@ mod noise;
 mod notification;
 mod receiver;
 mod segments;
+mod telegram;
 
 pub use carrier::{Carrier, carrier_of};
 pub use entries::{Entry, entries_of};
 pub use fault::{Refusal, Skip};
 pub use listener::Listener;
 pub use notification::{Notification, read_notification};
-pub use receiver::{Received, Receiver, Seal};
+pub use receiver::{Content, Received, Receiver, Seal};
+pub use telegram::{octets_of, telegram_entries};

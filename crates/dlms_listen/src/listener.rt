@@ -2,7 +2,7 @@
 
 ghost use Rattle.std.specs.Prelude.{◌≡◌};
 ghost use Rattle.dlms_listen.specs.Joined.{Segmented, block_in, kept_after, outcome_of, segment_of};
-ghost use Rattle.dlms_listen.specs.Line.{found_after, skip_after, with_segment};
+ghost use Rattle.dlms_listen.specs.Line.{found_after, skip_after, skip_of, with_segment};
 
 use crate::blocks::Blocks;
 use crate::carrier::{Carrier, carrier_of};
@@ -10,6 +10,8 @@ use crate::fault::Skip;
 use crate::noise::Noise;
 use crate::segments::Segments;
 use dlms_frame::{Deframer, Frame};
+use dlms_telegram as telegrams;
+use dlms_telegram::TelegramReader;
 use dlms_wrapper::{MOST_APDU, MessageReader};
 use std::marker::Model;
 
@@ -22,8 +24,8 @@ enum Found {
     Blocks,
 }
 
-/// Finds the APDUs of a stream, in HDLC frames or in messages of the wrapper, and joins segments and blocks. It allocates nothing
-/// and takes some 30 KB. After each `feed` look at `noise`, `skipped` and `apdu`.
+/// Finds the APDUs of a stream, in HDLC frames or in messages of the wrapper, and joins segments and blocks; or its telegrams. It
+/// allocates nothing and takes some 34 KB. After each `feed` look at `noise`, `skipped`, `apdu` and `telegram`.
 #[derive(Drop)]
 pub struct Listener {
     carrier: Option<Carrier>,
@@ -31,6 +33,7 @@ pub struct Listener {
     reader: MessageReader,
     segments: Segments,
     blocks: Blocks,
+    telegrams: TelegramReader,
     found: Found,
     skipped: Option<Skip>,
     noise: Noise,
@@ -47,6 +50,7 @@ impl Model for Listener {
       messages = l.reader;
       segments = l.segments;
       blocks = l.blocks;
+      telegrams = l.telegrams;
       found = l.found;
       skipped = l.skipped;
     } };
@@ -88,10 +92,31 @@ fn join_frame(
     }
 }
 
+/// Why a telegram is left out, if the last call of its reader completed none that is whole.
+fn skip_of(found: telegrams::Found) -> Option<Skip>
+    ensures { result ≡ skip_of found }
+{
+    match found {
+        telegrams::Found::WrongCheck => Some(Skip::WrongCheck),
+        telegrams::Found::Long => Some(Skip::LongTelegram),
+        telegrams::Found::Nothing | telegrams::Found::Telegram | telegrams::Found::Sealed => None,
+    }
+}
+
+/// The octets that a reader keeps of a telegram that has not ended; `None` if the last call ended one.
+fn open_octets(reader: &TelegramReader) -> Option<usize> {
+    match reader.found() {
+        telegrams::Found::Nothing => Some(reader.octets().len()),
+        _ => None,
+    }
+}
+
 impl Listener {
     ghost use Rattle.std.specs.Prelude.{◌≡◌, ◌<◌, ◌≤◌, None, [], length, option_map, take};
     ghost use Rattle.dlms_frame.specs.Stream.{Fits};
-    ghost use Rattle.dlms_listen.specs.Line.{Takes, TakesFrames, TakesMessages, apdu_in};
+    ghost use Rattle.dlms_listen.specs.Line.{Takes, TakesFrames, TakesMessages, TakesTelegrams, apdu_in, telegram_in};
+    ghost use Rattle.dlms_telegram.specs.Telegram.{nothing};
+    ghost use Rattle.dlms_telegram.specs.declared.reader.Found.TheVariants.{Nothing};
 
     /// At the beginning of a stream of this carrier, which the first octet tells if none is given.
     pub fn new(carrier: Option<Carrier>) -> Self
@@ -100,6 +125,7 @@ impl Listener {
         ensures messages { result.messages ≡ record { limit = 1024; bytes = []; message = None } }
         ensures segments { result.segments ≡ record { octets = []; ends = None } }
         ensures blocks { result.blocks ≡ record { octets = []; last = 0 } }
+        ensures telegrams { result.telegrams ≡ nothing Nothing }
     {
         Listener {
             carrier,
@@ -107,6 +133,7 @@ impl Listener {
             reader: MessageReader::new(MOST_APDU),
             segments: Segments::new(),
             blocks: Blocks::new(),
+            telegrams: TelegramReader::new(),
             found: Found::Nothing,
             skipped: None,
             noise: Noise::new(),
@@ -162,8 +189,26 @@ impl Listener {
         }
     }
 
-    /// Takes octets, at most to the end of the next frame or message, and returns how many it took; pass the others to the next call.
-    /// It drops the APDU of the call before.
+    /// Takes octets of telegrams, at most to the end of the next one.
+    fn feed_telegrams(&mut self, octets: &[u8]) -> usize
+        ensures len { result ≤ length octets.now }
+        ensures some { 0 < length octets.now → 0 < result }
+        ensures takes { TakesTelegrams self.old (take result octets.now) self.new }
+    {
+        self.carrier = Some(Carrier::Telegrams);
+        self.found = Found::Nothing;
+        let before = open_octets(&self.telegrams).unwrap_or(0);
+        let count = self.telegrams.feed(octets);
+        self.skipped = skip_of(self.telegrams.found());
+        let kept = self.telegrams.octets().len();
+        let is_end = open_octets(&self.telegrams).is_none();
+        let all = before.saturating_add(count);
+        self.noise.outside(all.saturating_sub(kept), is_end);
+        count
+    }
+
+    /// Takes octets, at most to the end of the next frame, message or telegram, and returns how many it took; pass the others to the
+    /// next call. It drops the APDU or the telegram of the call before.
     pub fn feed(&mut self, octets: &[u8]) -> usize
         ensures len { result ≤ length octets.now }
         ensures some { 0 < length octets.now → 0 < result }
@@ -181,6 +226,7 @@ impl Listener {
         match carrier {
             Carrier::Hdlc => self.feed_frames(octets),
             Carrier::Wrapper => self.feed_messages(octets),
+            Carrier::Telegrams => self.feed_telegrams(octets),
         }
     }
 
@@ -199,9 +245,16 @@ impl Listener {
         };
     }
 
-    /// How many octets were in no frame, before the frame that the last call completed.
+    /// How many octets were in no frame or telegram, before the one that the last call completed.
     pub fn noise(&self) -> u32 {
         self.noise.reported()
+    }
+
+    /// What carries the APDUs, if that is known.
+    pub fn carrier(&self) -> Option<Carrier>
+        ensures { result ≡ self.now.carrier }
+    {
+        self.carrier
     }
 
     /// What the last call left out.
@@ -223,6 +276,17 @@ impl Listener {
                 None => None,
             },
             Found::Blocks => Some(self.blocks.apdu()),
+        }
+    }
+
+    /// The octets of the telegram that the last call completed, in clear or ciphered, if it completed one.
+    pub fn telegram(&self) -> Option<&[u8]>
+        ensures { option_map (λ octets. octets.now) result ≡ telegram_in self.now.telegrams }
+    {
+        match self.telegrams.found() {
+            telegrams::Found::Telegram | telegrams::Found::Sealed => Some(self.telegrams.octets()),
+            telegrams::Found::Nothing | telegrams::Found::WrongCheck | telegrams::Found::Long =>
+                None,
         }
     }
 }

@@ -61,6 +61,16 @@ impl Noise {
         self.report(frame.saturating_add(FLAGS));
     }
 
+    /// Takes this many octets that are in no telegram, before the telegram that they end with if there is one.
+    pub fn outside(&mut self, count: usize, is_end: bool) {
+        let count = u32::try_from(count).unwrap_or(u32::MAX);
+        self.since = self.since.saturating_add(count);
+        self.reported = 0;
+        if is_end || self.since > MOST_NOISE {
+            self.report(0);
+        }
+    }
+
     /// The stream is at its end.
     pub fn end(&mut self) {
         self.report(0);

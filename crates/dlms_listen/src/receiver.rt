@@ -1,8 +1,13 @@
-//! Notifications, in clear or under the keys of their senders.
+//! Notifications and telegrams, in clear or under the keys of their senders.
 
 ghost use Rattle.std.specs.Prelude.{◌≡◌, IfErr, IfOk, OnErr, OnOk, MatchResult, None, Some, Ok, Err, option_map};
 ghost use Rattle.dlms_listen.specs.Sender.{Accepts};
 ghost use Rattle.dlms_listen.specs.Notification.{IsNotification, said};
+ghost use Rattle.std.specs.Prelude.{◌++◌, IfSome, take};
+ghost use Rattle.dlms_cipher.specs.Keys.{authentication_key, encryption_key};
+ghost use Rattle.dlms_cipher.specs.Dlms.{cipher_of, sealed_tag};
+ghost use Rattle.dlms_telegram.specs.Telegram.{IsTelegram};
+ghost use Rattle.dlms_listen.specs.Unsealing.{AreKeys, Decrypts, IsSealOf, OpensTelegram, Unseals};
 ghost use Rattle.dlms_listen.specs.Receiving.{IsNone, IsStale, has_tag, key_for, opened, opened_by, opened_with, refusal_of};
 
 use crate::counters::{Senders, Unaccepted};
@@ -12,8 +17,15 @@ use arrayvec::ArrayVec;
 use dlms_cipher::Keys;
 use dlms_keys::{Station, Stations};
 use dlms_security::{Header, MOST_APDU, Policy, UnprotectFault, header_of, kind_of, open_message};
+use dlms_telegram::{MOST_TELEGRAM, Telegram, read_telegram};
 
-/// Who protected a notification, and how.
+/// The octets of a ciphered telegram before its ciphertext: the tag, the title, the length and the security header.
+const HEAD: usize = 18;
+
+/// The octets of its tag.
+const TAG: usize = 12;
+
+/// Who protected a notification or a telegram, and how.
 #[derive(Clone, Copy)]
 pub struct Seal {
     pub title: [u8; 8],
@@ -22,14 +34,21 @@ pub struct Seal {
     pub is_authenticated: bool,
 }
 
-/// A notification, and its seal if it was protected.
+/// What is received.
+#[derive(Clone, Copy)]
+pub enum Content<'a> {
+    Notification(Notification<'a>),
+    Telegram(Telegram<'a>),
+}
+
+/// A notification or a telegram, and its seal if it was protected.
 #[derive(Clone, Copy)]
 pub struct Received<'a> {
-    pub notification: Notification<'a>,
+    pub content: Content<'a>,
     pub seal: Option<Seal>,
 }
 
-/// Takes notifications: in clear if there are no keys, and otherwise only those that the keys of their senders open, each counter
+/// Takes notifications and telegrams: in clear if there are no keys, and otherwise only those that the keys of their senders open, each counter
 /// once. One receiver may serve many streams.
 #[derive(Drop)]
 pub struct Receiver<'k> {
@@ -128,6 +147,128 @@ fn read_plain(plain: &ArrayVec<u8, MOST_APDU>) -> Result<Notification<'_>, Refus
     read_notification(plain.as_slice())
 }
 
+/// Reads the telegram that is all of these octets.
+fn telegram_in(octets: &[u8]) -> Result<Telegram<'_>, Refusal>
+    ensures { IfOk result (λ t. IsTelegram octets.now t.text.now t.is_checked) }
+{
+    match read_telegram(octets) {
+        Some(telegram) => Ok(telegram),
+        None => Err(Refusal::Malformed),
+    }
+}
+
+/// The ciphertext and the tag of a ciphered telegram, after its head of 18 octets.
+fn sealed_parts(octets: &[u8]) -> Option<(&[u8], [u8; TAG])>
+    ensures { IfSome result (λ parts. octets.now ≡ take 18 octets.now ++ (parts.0.now ++ parts.1)) }
+{
+    if octets.len() < HEAD + TAG {
+        return None;
+    }
+    let (_, sealed) = octets.split_at(HEAD);
+    let (text, end) = sealed.split_at(sealed.len() - TAG);
+    let mut tag = [0; TAG];
+    tag.copy_from_slice(end);
+    Some((text, tag))
+}
+
+/// The keys of the station with this title.
+fn keys_of(stations: &Stations, title: [u8; 8]) -> Result<Keys, Refusal>
+    ensures { IfOk result (λ keys. AreKeys stations.now.stations.items title keys) }
+{
+    let Some(station) = stations.station_of(title) else {
+        return Err(Refusal::Foreign(title));
+    };
+    match station.authentication_key {
+        Some(key) => Ok(Keys::new(station.encryption_key, key)),
+        None => Err(Refusal::NoAuthenticationKey(title)),
+    }
+}
+
+/// Decrypts a ciphertext if the tag is its tag.
+fn decrypt(
+    keys: &Keys,
+    seal: Seal,
+    text: &[u8],
+    tag: &[u8; 12],
+    plain: &mut ArrayVec<u8, MOST_TELEGRAM>,
+) -> Result<(), UnprotectFault>
+    ensures tag { IfOk result (λ _. tag.now
+        ≡ sealed_tag (encryption_key keys.now) (authentication_key keys.now) seal.title seal.counter text.now) }
+    ensures plain { IfOk result (λ _. plain.new.items ≡ cipher_of (encryption_key keys.now) seal.title seal.counter text.now) }
+{
+    plain.clear();
+    if plain.try_extend_from_slice(text).is_err() {
+        return Err(UnprotectFault::Long);
+    }
+    match keys.open(&seal.title, seal.counter, plain.as_mut_slice(), tag) {
+        Ok(()) => Ok(()),
+        Err(_) => Err(UnprotectFault::WrongTag),
+    }
+}
+
+/// Opens a ciphered telegram of this station. It must have a tag.
+fn decrypt_parts(
+    keys: &Keys,
+    seal: Seal,
+    octets: &[u8],
+    plain: &mut ArrayVec<u8, MOST_TELEGRAM>,
+) -> Result<(), UnprotectFault>
+    ensures { IfOk result (λ _. Decrypts (encryption_key keys.now) (authentication_key keys.now) seal octets.now plain.new.items) }
+{
+    let (text, tag) = sealed_parts(octets).ok_or(UnprotectFault::Short)?;
+    decrypt(keys, seal, text, &tag, plain)
+}
+
+/// The seal of a ciphered telegram with this header, which must be authenticated and encrypted.
+fn seal_of(header: Header) -> Result<Seal, Refusal>
+    ensures { IfOk result (IsSealOf header) }
+{
+    let title = header.title.ok_or(Refusal::NoTitle)?;
+    let Some(Policy::AuthenticatedEncrypted) = header.policy else {
+        return Err(Refusal::Closed(title, UnprotectFault::AnotherControl));
+    };
+    Ok(Seal {
+        title,
+        counter: header.counter,
+        is_authenticated: true,
+    })
+}
+
+/// Opens a ciphered telegram with this header.
+fn open_sealed(
+    stations: &Stations,
+    header: Header,
+    octets: &[u8],
+    plain: &mut ArrayVec<u8, MOST_TELEGRAM>,
+) -> Result<Seal, Refusal>
+    ensures seal { IfOk result (IsSealOf header) }
+    ensures opens { IfOk result (λ seal. OpensTelegram stations.now.stations.items octets.now seal plain.new.items) }
+{
+    let seal = seal_of(header)?;
+    let keys = keys_of(stations, seal.title)?;
+    match decrypt_parts(&keys, seal, octets, plain) {
+        Ok(()) => Ok(seal),
+        Err(fault) => Err(Refusal::Closed(seal.title, fault)),
+    }
+}
+
+/// Opens a ciphered telegram.
+fn open_telegram(
+    keys: Option<&Stations>,
+    octets: &[u8],
+    plain: &mut ArrayVec<u8, MOST_TELEGRAM>,
+) -> Result<Seal, Refusal>
+    ensures { IfOk result (λ seal. Unseals (option_map (λ k. k.now.stations.items) keys.entry) octets.now seal plain.new.items) }
+{
+    let Some(stations) = keys else {
+        return Err(Refusal::NoKeys);
+    };
+    match header_of(octets) {
+        Some(header) => open_sealed(stations, header, octets, plain),
+        None => Err(Refusal::Malformed),
+    }
+}
+
 /// Accepts the counter of a seal.
 fn accept(senders: &mut Senders, seal: Seal) -> Result<(), Refusal>
     ensures ok { OnOk result (Accepts seal.title seal.counter senders.old.all.items senders.new.all.items) }
@@ -148,8 +289,8 @@ fn accept(senders: &mut Senders, seal: Seal) -> Result<(), Refusal>
 
 impl<'k> Receiver<'k> {
     ghost use Rattle.std.specs.Prelude.{◌≡◌, [], IfErr, IfOk, OnErr, option_map};
-    ghost use Rattle.dlms_listen.specs.Notification.{said};
-    ghost use Rattle.dlms_listen.specs.Receiving.{AcceptsSeal, Contains, IsRefused};
+    ghost use Rattle.dlms_listen.specs.Receiving.{AcceptsSeal, ContainsNotification, IsRefused};
+    ghost use Rattle.dlms_listen.specs.Unsealing.{ContainsTelegram};
 
     /// Before the first notification.
     pub fn new(keys: Option<&'k Stations>) -> Self
@@ -168,7 +309,7 @@ impl<'k> Receiver<'k> {
         plain: &'a mut ArrayVec<u8, MOST_APDU>,
     ) -> Result<Received<'a>, Refusal>
         ensures ok { let keys = option_map (λ k. k.now.stations.items) self.old.keys in
-            IfOk result (λ r. Contains keys apdu.now (said r.notification) r.seal) }
+            IfOk result (λ r. ContainsNotification keys apdu.now r.content r.seal) }
         ensures counter { IfOk result (λ r. AcceptsSeal r.seal self.old.senders.all.items self.new.senders.all.items) }
         ensures err { let keys = option_map (λ k. k.now.stations.items) self.old.keys in
             IfErr result (IsRefused keys self.old.senders.all.items apdu.now) }
@@ -180,7 +321,7 @@ impl<'k> Receiver<'k> {
                 return Err(Refusal::InClear);
             }
             return Ok(Received {
-                notification,
+                content: Content::Notification(notification),
                 seal: None,
             });
         }
@@ -189,7 +330,38 @@ impl<'k> Receiver<'k> {
         let notification = read_plain(plain)?;
         accept(&mut self.senders, seal)?;
         Ok(Received {
-            notification,
+            content: Content::Notification(notification),
+            seal: Some(seal),
+        })
+    }
+
+    /// Takes the octets of a telegram, in clear or ciphered. `plain` gets what a ciphered one contains. A refused one changes no
+    /// counter.
+    pub fn receive_telegram<'a>(
+        &mut self,
+        octets: &'a [u8],
+        plain: &'a mut ArrayVec<u8, MOST_TELEGRAM>,
+    ) -> Result<Received<'a>, Refusal>
+        ensures ok { let keys = option_map (λ k. k.now.stations.items) self.old.keys in
+            IfOk result (λ r. ContainsTelegram keys octets.now r.content r.seal) }
+        ensures counter { IfOk result (λ r. AcceptsSeal r.seal self.old.senders.all.items self.new.senders.all.items) }
+        ensures same { OnErr result (self.new ≡ self.old) }
+    {
+        if kind_of(octets).is_none() {
+            let telegram = telegram_in(octets)?;
+            return match self.keys {
+                Some(_) => Err(Refusal::InClear),
+                None => Ok(Received {
+                    content: Content::Telegram(telegram),
+                    seal: None,
+                }),
+            };
+        }
+        let seal = open_telegram(self.keys, octets, plain)?;
+        let telegram = telegram_in(plain.as_slice())?;
+        accept(&mut self.senders, seal)?;
+        Ok(Received {
+            content: Content::Telegram(telegram),
             seal: Some(seal),
         })
     }

@@ -15,12 +15,14 @@ returns-in-Some-clause-takes c =
       messages = c.feed-count.new.self;
       segments = c.self.inside.segments;
       blocks = c.join_apdu-found.new.blocks;
+      telegrams = c.self.inside.telegrams;
       found = c.join_apdu-found.result.0;
       skipped = c.join_apdu-found.result.1;
     } in
     subst (λ old. TakesMessages old read new) c.self.view_is (record {
       carrier = refl;
       frames = refl;
+      telegrams = refl;
       limit = c.feed-count.ensures.limit;
       read = read;
       left = [];
@@ -47,12 +49,14 @@ returns-then-count-gt0-clause-takes c =
       messages = c.feed-count.new.self;
       segments = c.self.inside.segments;
       blocks = c.self.inside.blocks;
+      telegrams = c.self.inside.telegrams;
       found = place.Nothing;
       skipped = Some (skip.Header c.in-Some-fault.fault);
     } in
     subst (λ old. TakesMessages old (take (length octets) octets) new) c.self.view_is (record {
       carrier = refl;
       frames = refl;
+      telegrams = refl;
       limit = c.feed-count.ensures.limit;
       read = read;
       left = left;
@@ -77,12 +81,14 @@ returns-in-None-clause-takes c =
       messages = c.feed-count.new.self;
       segments = c.self.inside.segments;
       blocks = c.self.inside.blocks;
+      telegrams = c.self.inside.telegrams;
       found = place.Nothing;
       skipped = None;
     } in
     subst (λ old. TakesMessages old read new) c.self.view_is (record {
       carrier = refl;
       frames = refl;
+      telegrams = refl;
       limit = c.feed-count.ensures.limit;
       read = read;
       left = [];

@@ -1,0 +1,3 @@
+pub mod FeedLemmas
+pub mod CutLemmas
+pub mod PartLemmas

@@ -1,0 +1,4 @@
+pub mod Check
+pub mod Telegram
+pub mod Line
+pub mod Cutting
