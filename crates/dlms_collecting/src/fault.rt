@@ -73,6 +73,8 @@ pub enum MeterFault {
     Call(CallFault),
     /// It did not give the attribute with this number.
     Refused(usize, Refusal),
+    /// Its seat handed back the job of another meter: no seat does.
+    AnotherJob,
     /// Anything else.
     Other(RunFault),
 }
@@ -143,6 +145,7 @@ impl MeterFault {
                 None => FieldFault::Other(RunFault::Io),
             },
             MeterFault::Call(fault) => FieldFault::Unasked(meter.place, fault),
+            MeterFault::AnotherJob => FieldFault::Other(RunFault::Io),
             MeterFault::Other(fault) => FieldFault::Other(fault),
         })
     }

@@ -1,8 +1,10 @@
 //! What is true of the files of a collection.
 
 ghost use Rattle.dlms_collecting.specs.Held.{WhatIsCollectedIsHeld};
+ghost use Rattle.dlms_collecting.specs.Own.{WhatIsFiledIsItsOwn};
 
 use dlms_carrier::AnyCarrier;
+use dlms_inquiries::laws::done_is_a_poll;
 use dlms_meter::Meter;
 use dlms_pages::Pages;
 use dlms_secured::Secured;
@@ -16,4 +18,13 @@ pub fn what_is_collected_is_held<P: Pages, A: Allocator + Copy>(meter: &Meter<P,
     ensures { WhatIsCollectedIsHeld meter.now }
 {
     a_poll_over_a_carrier::<Secured<AnyCarrier<A>>, P, A>(meter);
+}
+
+/// Rows that are printed and filed for the meter with a number are those of the poll that was started with that number, and of no other,
+/// whatever the other meters do. `MeterFile::file` files by `FilesOwn` alone, and `Order::poll` makes a poll over the route of its
+/// meter.
+pub fn what_is_filed_is_its_own()
+    ensures { WhatIsFiledIsItsOwn }
+{
+    done_is_a_poll();
 }

@@ -11,6 +11,7 @@ mod list_fault;
 mod meter_file;
 mod named;
 mod order;
+mod own;
 mod pace;
 mod progress;
 mod report;

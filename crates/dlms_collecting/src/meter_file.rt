@@ -1,14 +1,19 @@
 //! The readings file of a meter that is polled.
 
-ghost use Rattle.std.specs.Prelude.{◌≤◌, IfOk, IfSome};
+ghost use Rattle.std.specs.Prelude.{◌≡◌, ◌≤◌, Err, IfOk, IfSome};
+ghost use Rattle.dlms_collecting.specs.Own.{FilesOwn};
+ghost use Rattle.dlms_collecting.specs.declared.fault.MeterFault.TheVariants.{AnotherJob};
 ghost use Rattle.dlms_data.specs.declared.date_time.TheConstants.{LAST_SECOND};
 ghost use Rattle.dlms_polling.specs.Keeping.{FilesPolled};
 
 use crate::fault::MeterFault;
 use crate::grouped::{GroupPlace, group_place};
+use crate::own::own_job;
 use dlms_data::LAST_SECOND;
 use dlms_filing::{Filing, Output};
+use dlms_fleet::Numbered;
 use dlms_headend::{Readings, Row};
+use dlms_inquiries::MeterJob;
 use dlms_jobs::PollJob;
 use dlms_polling::{file_readings, hold_file, judge, open_readings};
 use std::alloc::{AllocError, Global};
@@ -52,6 +57,33 @@ fn file_poll<F: Filing, O: Output, E: Output>(
     }
 }
 
+/// The same with the rows of a job that is done, if it is the poll of the meter with this number. Another job is refused, and nothing is
+/// printed or filed.
+fn file_own<F: Filing, O: Output, E: Output>(
+    alloc: Global,
+    number: usize,
+    place: &mut F,
+    readings: &mut Readings,
+    path: &str,
+    job: &Numbered<MeterJob>,
+    output: &mut O,
+    errors: &mut E,
+) -> Result<(), MeterFault>
+    ensures own { IfOk result (λ _. FilesOwn number job.now (F.asked place.old) (F.asked place.new)
+        (O.printed output.old) (O.printed output.new)
+        (E.printed errors.old) (E.printed errors.new) readings.old) }
+    ensures other { (job.now.number ≡ number → ⊥) → (result ≡ Err AnotherJob)
+        × (place.new ≡ place.old) × (output.new ≡ output.old) × (errors.new ≡ errors.old) }
+{
+    match own_job(number, job) {
+        Ok(MeterJob::Poll(poll)) => {
+            file_poll(alloc, place, readings, path, &**poll, output, errors)
+        }
+        Ok(_) => Err(MeterFault::AnotherJob),
+        Err(fault) => Err(fault),
+    }
+}
+
 impl<'r, R: Files<File = File> + AllocGlobal> MeterFile<'r, R> {
     /// Holds and reads the file at this path.
     pub fn open(rt: &'r R, path: String) -> Result<Self, MeterFault> {
@@ -78,18 +110,20 @@ impl<'r, R: Files<File = File> + AllocGlobal> MeterFile<'r, R> {
         self.readings.last()
     }
 
-    /// Files the rows of the poll, as `file_poll` does.
+    /// Files the rows of the poll of the meter with this number, as `file_own` does.
     pub fn file<O: Output, E: Output>(
         &mut self,
         alloc: Global,
-        job: &PollJob,
+        number: usize,
+        job: &Numbered<MeterJob>,
         output: &mut O,
         errors: &mut E,
     ) -> Result<(), MeterFault> {
         let place = &mut self.place;
         let readings = &mut self.readings;
-        file_poll(
+        file_own(
             alloc,
+            number,
             place,
             readings,
             self.path.as_str(),

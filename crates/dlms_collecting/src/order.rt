@@ -2,15 +2,18 @@
 
 ghost use Rattle.std.specs.Prelude.{◌≤◌, IfOk, IfSome};
 ghost use Rattle.dlms_client.specs.Plan.{IsPlan, plan_of};
+ghost use Rattle.dlms_collecting.specs.Own.{IsNewPoll};
 ghost use Rattle.dlms_data.specs.declared.date_time.TheConstants.{LAST_SECOND};
 
 use crate::fault::MeterFault;
 use crate::list::Meter;
 use crate::meter_file::MeterFile;
+use crate::own::own_job;
 use arrayvec::ArrayVec;
 use dlms_client::Plan;
 use dlms_data::{Descriptor, LAST_SECOND};
 use dlms_ends::RunFault;
+use dlms_fleet::Numbered;
 use dlms_frame::Client;
 use dlms_guards::{POLL_COUNTERS, Protection, heed, protection_of};
 use dlms_headend::{Columns, PollTerms};
@@ -136,9 +139,12 @@ impl<'r, R: Files<File = File> + Clock + AllocGlobal + RandomSource> Order<'r, R
         }
     }
 
-    /// The job that polls the meter from the last row of its file on. `read_list` gives no meter an unlawful route; one that has one is
-    /// refused as a line that failed.
-    pub fn poll(&mut self, rt: &R, meter: &Meter<'_>) -> Result<MeterJob, MeterFault> {
+    /// The job that polls the meter from the last row of its file on, with the order's number. `read_list` gives no meter an unlawful
+    /// route; one that has one is refused as a line that failed.
+    pub fn poll(&mut self, rt: &R, meter: &Meter<'_>) -> Result<Numbered<MeterJob>, MeterFault>
+        ensures { IfOk result (λ job. IsNewPoll self.old.number meter.now.route job) }
+    {
+        let number = self.number;
         if !meter.route.is_lawful() {
             return Err(MeterFault::Other(RunFault::Io));
         }
@@ -147,10 +153,14 @@ impl<'r, R: Files<File = File> + Clock + AllocGlobal + RandomSource> Order<'r, R
         let terms = PollTerms {
             secret,
             after: self.last(),
+            until: None,
             columns: Columns::Asked,
         };
         match PollJob::new(rt.alloc(), meter.route, terms, guard) {
-            Ok(job) => Ok(MeterJob::Poll(job)),
+            Ok(job) => Ok(Numbered {
+                number,
+                job: MeterJob::Poll(job),
+            }),
             Err(_) => Err(MEMORY),
         }
     }
@@ -176,9 +186,12 @@ impl<'r, R: Files<File = File> + Clock + AllocGlobal + RandomSource> Order<'r, R
         rt: &R,
         meter: &Meter<'_>,
         expected: &Expected<'_>,
-    ) -> Result<MeterJob, MeterFault> {
+    ) -> Result<Numbered<MeterJob>, MeterFault> {
         match text_script(rt.alloc(), expected) {
-            Ok(script) => Ok(MeterJob::Text(self.ask(rt, meter, script)?)),
+            Ok(script) => Ok(Numbered {
+                number: self.number,
+                job: MeterJob::Text(self.ask(rt, meter, script)?),
+            }),
             Err(_) => Err(MEMORY),
         }
     }
@@ -189,16 +202,23 @@ impl<'r, R: Files<File = File> + Clock + AllocGlobal + RandomSource> Order<'r, R
         rt: &R,
         meter: &Meter<'_>,
         names: &[Name],
-    ) -> Result<MeterJob, MeterFault> {
+    ) -> Result<Numbered<MeterJob>, MeterFault> {
         match attribute_script(rt.alloc(), names) {
-            Ok(script) => Ok(MeterJob::Values(self.ask(rt, meter, script)?)),
+            Ok(script) => Ok(Numbered {
+                number: self.number,
+                job: MeterJob::Values(self.ask(rt, meter, script)?),
+            }),
             Err(_) => Err(MEMORY),
         }
     }
 
     /// Keeps the meter's counter after a protected association, whatever came of it. One whose first message is not newer than those of
-    /// earlier associations is refused.
-    pub fn keep_counter(&mut self, job: &MeterJob) -> Result<(), MeterFault> {
+    /// earlier associations is refused. The job of another meter is refused first.
+    pub fn keep_counter(&mut self, job: &Numbered<MeterJob>) -> Result<(), MeterFault> {
+        let job = match own_job(self.number, job) {
+            Ok(job) => job,
+            Err(fault) => return Err(fault),
+        };
         let Some(mut counters) = self.counters.take() else {
             return Ok(());
         };

@@ -16,12 +16,12 @@ use crate::report::{Failure, Tally};
 use crate::schedule::Schedule;
 use crate::texts::judge_text;
 use crate::values::{PrintedValues, ValueText};
-use crate::wires::{EndedPoll, Wires};
+use crate::wires::{EndedPoll, Seconds, Wires};
+use dlms_client::Route;
 use dlms_ends::RunFault;
 use dlms_filing::Output;
-use dlms_fleet::{Fleet, Limits, Outcome, take_all};
+use dlms_fleet::{Fleet, Limits, Numbered, Outcome, take_all};
 use dlms_inquiries::{AskJob, Attributes, MeterJob, Questions};
-use dlms_jobs::PollJob;
 use dlms_lines::host_and_port;
 use dlms_pages::sync_folder;
 use std::alloc::{AllocError, Global};
@@ -61,8 +61,8 @@ pub struct Round<'a, 'l, 'r, R, T, O, E> {
     meters: &'l [Meter<'a>],
     /// A path in the folder of the readings files.
     probe: &'l str,
-    fleet: Fleet<MeterJob>,
-    wires: Wires<Order<'r, R>, MeterJob>,
+    fleet: Fleet<Numbered<MeterJob>>,
+    wires: Wires<Order<'r, R>, Numbered<MeterJob>>,
     schedule: Schedule,
     /// Whether a meter has shown the text that it has to show, by its number.
     are_known: Vec<bool>,
@@ -118,6 +118,14 @@ fn loss(failure: Option<io::Error>) -> MeterFault {
 pub fn moment<'a, R: Clock>(rt: &R) -> Result<Instant, CollectFault<'a>> {
     match Instant::now(rt) {
         Ok(now) => Ok(now),
+        Err(error) => Err(CollectFault::Wait(error)),
+    }
+}
+
+/// The second of the system's clock, counted from 1970 on.
+fn system_second<'a, R: Clock>(rt: &R) -> Result<u64, CollectFault<'a>> {
+    match rt.since_1970() {
+        Ok(since) => Ok(since.as_secs()),
         Err(error) => Err(CollectFault::Wait(error)),
     }
 }
@@ -239,7 +247,7 @@ impl<
         number: usize,
         meter: &Meter<'a>,
         folder: &str,
-    ) -> Result<(Order<'r, R>, MeterJob), MeterFault> {
+    ) -> Result<(Order<'r, R>, Numbered<MeterJob>), MeterFault> {
         let Ok(path) = path_of(self.rt.alloc(), folder, meter.name) else {
             return Err(MeterFault::Other(RunFault::Memory));
         };
@@ -255,7 +263,7 @@ impl<
         &self,
         number: usize,
         meter: &Meter<'a>,
-    ) -> Result<(Order<'r, R>, MeterJob), MeterFault> {
+    ) -> Result<(Order<'r, R>, Numbered<MeterJob>), MeterFault> {
         let mut order = Order::new(number, None);
         if let Some(expected) = meter.expected
             && !self.is_known(number)
@@ -319,14 +327,14 @@ impl<
         &mut self,
         number: usize,
         file: &mut MeterFile<'r, R>,
-        job: &PollJob,
+        job: &Numbered<MeterJob>,
     ) -> Result<Finished, CollectFault<'a>> {
         let alloc = self.rt.alloc();
         let name = self.name_of(number);
         let mut output = Named::rows(alloc, name, self.collection.format, self.output);
         let mut above = AboveProgress::new(&mut self.progress, self.errors);
         let mut errors = Named::messages(alloc, name, &mut above);
-        let filed = file.file(alloc, job, &mut output, &mut errors);
+        let filed = file.file(alloc, number, job, &mut output, &mut errors);
         if output.has_failed() {
             return Err(CollectFault::Output);
         }
@@ -363,11 +371,13 @@ impl<
         }
     }
 
-    /// Prints the values that a meter gave, and counts it as failed if it did not give all.
+    /// Prints the values that a meter gave, the last of them at this second of the system's clock, and counts it as failed if it did not
+    /// give all.
     fn print_values(
         &mut self,
         number: usize,
         job: &AskJob<Attributes>,
+        second: u64,
     ) -> Result<Finished, CollectFault<'a>> {
         let name = self.name_of(number);
         let mut printed = PrintedValues::new(self.rt.alloc());
@@ -375,6 +385,7 @@ impl<
             self.texts,
             name,
             self.collection.purpose.names(),
+            second,
             job.script().readings(),
         )?;
         if self.output.write_out(printed.text.as_slice()).is_err()
@@ -394,20 +405,33 @@ impl<
         Ok(Finished::Nothing)
     }
 
+    /// The second of the system's clock in the round in which the last answer came to a meter's requests that are done: over HDLC their
+    /// last message requests the connection's end at that answer, and over the wrapper they end with it.
+    fn answered(&self, number: usize, seconds: Seconds) -> u64 {
+        match self.meters.get(number) {
+            Some(meter) if matches!(meter.route, Route::Hdlc(..)) => seconds.sent,
+            _ => seconds.ended,
+        }
+    }
+
     /// Takes a job that is done.
     fn take(
         &mut self,
         order: &mut Order<'r, R>,
-        job: &MeterJob,
+        job: &Numbered<MeterJob>,
+        seconds: Seconds,
     ) -> Result<Finished, CollectFault<'a>> {
         let number = order.number;
-        match job {
-            MeterJob::Poll(job) => match &mut order.file {
-                Some(file) => self.file(number, file, &**job),
+        match &job.job {
+            MeterJob::Poll(_) => match &mut order.file {
+                Some(file) => self.file(number, file, job),
                 None => Ok(Finished::Nothing),
             },
             MeterJob::Text(job) => self.judge(number, &**job),
-            MeterJob::Values(job) => self.print_values(number, &**job),
+            MeterJob::Values(job) => {
+                let second = self.answered(number, seconds);
+                self.print_values(number, &**job, second)
+            }
         }
     }
 
@@ -415,7 +439,7 @@ impl<
     /// readings file was put.
     fn finish(
         &mut self,
-        ended: EndedPoll<Order<'r, R>, MeterJob>,
+        ended: EndedPoll<Order<'r, R>, Numbered<MeterJob>>,
     ) -> Result<bool, CollectFault<'a>> {
         let EndedPoll {
             cargo,
@@ -423,12 +447,13 @@ impl<
             job,
             failure,
             was_connected,
+            seconds,
         } = ended;
         let mut order = cargo;
         let number = order.number;
         let finished = match (order.keep_counter(&job), outcome) {
             (Err(fault), _) => Ok(Finished::Failed(fault)),
-            (Ok(()), Outcome::Done) => self.take(&mut order, &job),
+            (Ok(()), Outcome::Done) => self.take(&mut order, &job, seconds),
             (Ok(()), Outcome::Fails(fault)) => Ok(Finished::Failed(MeterFault::of_job(fault))),
             (Ok(()), Outcome::Lost) => Ok(Finished::Failed(loss(failure))),
             (Ok(()), Outcome::Late) => Ok(Finished::Failed(MeterFault::Late)),
@@ -476,6 +501,7 @@ impl<
         if let Err(error) = self.wires.look(wait) {
             return Err(CollectFault::Wait(error));
         }
+        self.wires.set_second(system_second(self.rt)?);
         take_all(&mut self.fleet, &mut self.wires, u64::MAX);
         let now = moment(self.rt)?;
         if self.pace.ticks(now) {

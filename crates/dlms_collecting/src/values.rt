@@ -19,6 +19,8 @@ pub struct MeterValue<'a> {
     pub value: &'a [u8],
     /// The scaler and the unit of a register, if the meter gave them.
     pub scale: Option<(i8, u8)>,
+    /// The second of the system's clock, counted from 1970 on, in the round in which the last answer of the meter came.
+    pub second: u64,
 }
 
 /// How values are printed.
@@ -61,6 +63,7 @@ impl PrintedValues {
         texts: &T,
         meter: &str,
         names: &str,
+        second: u64,
         number: usize,
         reading: &Reading,
     ) -> Result<(), AllocError> {
@@ -78,6 +81,7 @@ impl PrintedValues {
             attribute,
             value: reading.value.as_slice(),
             scale: reading.scale,
+            second,
         };
         if texts.append_value(&mut self.text, &value)? {
             self.lines = self.lines.saturating_add(1);
@@ -89,16 +93,17 @@ impl PrintedValues {
         Ok(())
     }
 
-    /// Appends the value of each attribute, or why it was refused, in the order of the names.
+    /// Appends the value of each attribute, or why it was refused, in the order of the names. The last answer came at this second.
     pub fn add_all<T: ValueText>(
         &mut self,
         texts: &T,
         meter: &str,
         names: &str,
+        second: u64,
         readings: &[Reading],
     ) -> Result<(), AllocError> {
         for (number, reading) in readings.iter().enumerate() {
-            self.add(texts, meter, names, number, reading)?;
+            self.add(texts, meter, names, second, number, reading)?;
         }
         Ok(())
     }

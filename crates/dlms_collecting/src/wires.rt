@@ -1,6 +1,6 @@
 //! The connections of the seats, over one event loop.
 
-ghost use Rattle.std.specs.Prelude.{⊤};
+ghost use Rattle.std.specs.Prelude.{◌≡◌, ⊤};
 
 use crate::pace::TICKS_A_SECOND;
 use dlms_fleet::{Job, LineEvent, Lines, Outcome, PIECE, SeatEvent};
@@ -41,7 +41,17 @@ struct Wire<C> {
     failure: Option<io::Error>,
     /// Its place among the running seats.
     rank: usize,
+    /// The second of the round in which its last message was sent.
+    sent_at: u64,
     cargo: C,
+}
+
+/// Seconds of the system's clock, counted from 1970 on: those of the rounds in which a poll sent its last message, and ended. What a poll
+/// does at an answer it does in the round in which the answer came.
+#[derive(Clone, Copy)]
+pub struct Seconds {
+    pub sent: u64,
+    pub ended: u64,
 }
 
 /// A poll that ended.
@@ -55,6 +65,7 @@ pub struct EndedPoll<C, T> {
     pub failure: Option<io::Error>,
     /// Whether it was connected.
     pub was_connected: bool,
+    pub seconds: Seconds,
 }
 
 /// A seat: nothing, a running poll, or one that ended and was not taken yet.
@@ -103,6 +114,8 @@ pub struct Wires<C, T> {
     ticking: usize,
     /// Whether memory ran out.
     is_short: bool,
+    /// The second of the system's clock in this round.
+    second: u64,
 }
 
 /// Writes the bytes after those that were written.
@@ -218,6 +231,7 @@ impl<C: Drop, T: Drop> Wires<C, T> {
             reports: Vec::with_capacity(alloc, MOST_EVENTS)?,
             ticking: 0,
             is_short: false,
+            second: 0,
         })
     }
 
@@ -255,6 +269,7 @@ impl<C: Drop, T: Drop> Wires<C, T> {
             sent: 0,
             failure: None,
             rank: self.running.len(),
+            sent_at: self.second,
             cargo,
         };
         self.seat(number, wire)?;
@@ -298,6 +313,13 @@ impl<C: Drop, T: Drop> Wires<C, T> {
             })?;
         }
         Ok(())
+    }
+
+    /// A round begins at this second of the system's clock.
+    pub fn set_second(&mut self, second: u64)
+        ensures { self.new.second ≡ second }
+    {
+        self.second = second;
     }
 
     /// A tick of the clock: each running seat gets it.
@@ -437,9 +459,14 @@ impl<C: Drop, T: Drop> Wires<C, T> {
             cargo,
             failure,
             is_connected,
+            sent_at,
             ..
         } = wire;
         drop(stream);
+        let seconds = Seconds {
+            sent: sent_at,
+            ended: self.second,
+        };
         let ended = Box::new(
             self.alloc,
             EndedPoll {
@@ -448,6 +475,7 @@ impl<C: Drop, T: Drop> Wires<C, T> {
                 job,
                 failure,
                 was_connected: is_connected,
+                seconds,
             },
         )?;
         self.ended.push_back(number)?;
@@ -473,9 +501,11 @@ impl<C: Drop, T: Job<Message = Vec<u8>, Fault = JobFault> + Drop> Lines<T> for W
     }
 
     fn send(&mut self, number: usize, message: Vec<u8>) {
+        let second = self.second;
         let Some(wire) = self.wire(number) else {
             return;
         };
+        wire.sent_at = second;
         if let Err(error) = send_on(wire, message.as_slice()) {
             wire.failure = Some(error);
             self.is_short = self.lost.push(number).is_err() || self.is_short;

@@ -3,6 +3,7 @@
 ghost use Rattle.std.specs.Prelude.{◌≡◌};
 ghost use Rattle.dlms_fleet.specs.Alone.{EndsByItsSteps, EndsInTime, EndsOnce, FreesSeats, IsAlone, KeepsSeats};
 ghost use Rattle.dlms_fleet.specs.Example.{ExampleIsRun, ExampleEnds};
+ghost use Rattle.dlms_fleet.specs.Numbers.{KeepsNumbers, OneIsDone};
 ghost use Rattle.dlms_fleet.specs.declared.lines.TheConstants.{PIECE};
 
 use crate::job::Job;
@@ -29,10 +30,18 @@ pub fn seats_are_freed<T: Job>()
     ensures { FreesSeats T.steps }
 {}
 
-/// The laws apply: in one run two jobs start, one is done as bytes arrive, another starts on its seat, and the second is late.
+/// What a seat of numbered jobs hands back, with whatever outcome, has the number of the job that was started there, and came from it by
+/// its own steps alone, whatever happens on the other seats.
+pub fn each_keeps_its_number<T: Job>()
+    ensures { KeepsNumbers T.steps }
+{}
+
+/// The laws apply: in one run two jobs start, one is done as bytes arrive, another starts on its seat, and the second is late. In
+/// another one of two numbered jobs is handed back as done.
 pub fn runs_exist()
     ensures run { ExampleIsRun }
     ensures ends { ExampleEnds }
+    ensures numbered { OneIsDone }
 {}
 
 /// The most bytes of one read.
