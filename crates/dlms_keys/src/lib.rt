@@ -17,4 +17,4 @@ pub use place::{
 pub use setting::Setting;
 pub use settings::Settings;
 pub use station::Station;
-pub use stations::Stations;
+pub use stations::{Keyring, Stations};

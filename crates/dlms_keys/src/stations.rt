@@ -143,21 +143,18 @@ fn has_tag(policy: Policy) -> bool
     }
 }
 
-impl Stations {
-    /// Reads the stations of a TOML text: `[[station]]` tables with the settings `title`, `encryption-key` and
-    /// `authentication-key`, the last of which may be missing. There is nothing else, and there are at most 256.
-    pub fn read(alloc: Global, text: &str) -> Result<Stations, StationsFault>
-        ensures { MatchResult result (λ s. ReadAsKeyring text.now s.stations.items)
-            (λ fault. IsRefusedText text.now fault) }
+/// The keys of stations, wherever these are kept.
+#[derive(Clone, Copy)]
+pub struct Keyring<'k> {
+    stations: &'k [Station],
+}
+
+impl<'k> Keyring<'k> {
+    /// The keys of these stations.
+    pub fn over(stations: &'k [Station]) -> Self
+        ensures { result.stations.now ≡ stations.now }
     {
-        match toml::table_from_str(alloc, text) {
-            Ok(table) => match keyring_of(alloc, &table) {
-                Ok(stations) => Ok(Stations { stations }),
-                Err(fault) => Err(fault),
-            },
-            Err(fault) if fault.is_memory() => Err(StationsFault::Memory),
-            Err(_) => Err(StationsFault::Toml),
-        }
+        Keyring { stations }
     }
 
     /// The first station that is the sender or the receiver, and opens the message.
@@ -168,7 +165,7 @@ impl Stations {
         header: Header,
         message: &[u8],
     ) -> Option<Station>
-        ensures { result ≡ near_opening self.now.stations.items known.now policy header message.now }
+        ensures { result ≡ near_opening self.now.stations.now known.now policy header message.now }
     {
         self.stations.iter().copied().find(|s| is_near(s, known, header)
             && opens(s, known, policy, header, message))
@@ -182,7 +179,7 @@ impl Stations {
         header: Header,
         message: &[u8],
     ) -> Option<Station>
-        ensures { result ≡ any_opening self.now.stations.items known.now policy header message.now }
+        ensures { result ≡ any_opening self.now.stations.now known.now policy header message.now }
     {
         self.stations
             .iter()
@@ -192,7 +189,7 @@ impl Stations {
 
     /// The first station that is the sender or the receiver.
     fn near_station(&self, known: &Known, header: Header) -> Option<Station>
-        ensures { result ≡ near_station self.now.stations.items known.now header }
+        ensures { result ≡ near_station self.now.stations.now known.now header }
     {
         self.stations
             .iter()
@@ -208,7 +205,7 @@ impl Stations {
         header: Header,
         message: &[u8],
     ) -> Option<Station>
-        ensures { result ≡ station_for self.now.stations.items known.now policy header message.now }
+        ensures { result ≡ station_for self.now.stations.now known.now policy header message.now }
     {
         if let Some(station) = self.near_opening(known, policy, header, message) {
             return Some(station);
@@ -229,7 +226,7 @@ impl Stations {
         header: Header,
         message: &[u8],
     ) -> Result<ArrayVec<u8, MOST_APDU>, Closed>
-        ensures { let by = opening_by_policy self.now.stations.items known.now (Some policy) header message.now in
+        ensures { let by = opening_by_policy self.now.stations.now known.now (Some policy) header message.now in
             MatchResult result (λ apdu. by ≡ Ok apdu.items) (λ f. by ≡ Err f) }
     {
         let sender = first_title(header.title, known.sender);
@@ -243,21 +240,11 @@ impl Stations {
         }
     }
 
-    /// The first station with this title.
-    pub fn station_of(&self, title: [u8; 8]) -> Option<Station>
-        ensures { result ≡ titled_station title self.now.stations.items }
-    {
-        self.stations
-            .iter()
-            .copied()
-            .find(|s| is_title(&s.title, Some(title)))
-    }
-
     /// Returns the APDU in a message of a log, or why it is not opened. The keys are those of its sender or receiver, by its own
     /// title or that of its association (`known`); if it has a tag, the keys of every other station are tried too. If its sender is
     /// not known, each station's own title is tried, and only on messages with a tag.
     pub fn open_message(&self, known: &Known, message: &[u8]) -> Result<Plain, Closed>
-        ensures apdu { let by = opening_among self.now.stations.items known.now message.now in
+        ensures apdu { let by = opening_among self.now.stations.now known.now message.now in
             MatchResult result (λ plain. by ≡ Ok plain.apdu.items) (λ f. by ≡ Err f) }
         ensures tag { IfOk result (λ plain. plain.is_authenticated ≡ is_tagged (header_in message.now)) }
     {
@@ -274,6 +261,50 @@ impl Stations {
             }),
             Err(closed) => Err(closed),
         }
+    }
+}
+
+impl Stations {
+    /// Reads the stations of a TOML text: `[[station]]` tables with the settings `title`, `encryption-key` and
+    /// `authentication-key`, the last of which may be missing. There is nothing else, and there are at most 256.
+    pub fn read(alloc: Global, text: &str) -> Result<Stations, StationsFault>
+        ensures { MatchResult result (λ s. ReadAsKeyring text.now s.stations.items)
+            (λ fault. IsRefusedText text.now fault) }
+    {
+        match toml::table_from_str(alloc, text) {
+            Ok(table) => match keyring_of(alloc, &table) {
+                Ok(stations) => Ok(Stations { stations }),
+                Err(fault) => Err(fault),
+            },
+            Err(fault) if fault.is_memory() => Err(StationsFault::Memory),
+            Err(_) => Err(StationsFault::Toml),
+        }
+    }
+
+    /// The first station with this title.
+    pub fn station_of(&self, title: [u8; 8]) -> Option<Station>
+        ensures { result ≡ titled_station title self.now.stations.items }
+    {
+        self.stations
+            .iter()
+            .copied()
+            .find(|s| is_title(&s.title, Some(title)))
+    }
+
+    /// Their keys.
+    pub fn keyring(&self) -> Keyring<'_>
+        ensures { result.stations.now ≡ self.now.stations.items }
+    {
+        Keyring::over(self.stations.as_slice())
+    }
+
+    /// Returns the APDU in a message of a log, or why it is not opened, as `Keyring::open_message` does.
+    pub fn open_message(&self, known: &Known, message: &[u8]) -> Result<Plain, Closed>
+        ensures apdu { let by = opening_among self.now.stations.items known.now message.now in
+            MatchResult result (λ plain. by ≡ Ok plain.apdu.items) (λ f. by ≡ Err f) }
+        ensures tag { IfOk result (λ plain. plain.is_authenticated ≡ is_tagged (header_in message.now)) }
+    {
+        self.keyring().open_message(known, message)
     }
 }
 

@@ -25,4 +25,6 @@ lists = json.dumps(json.load(open(samples, encoding="utf-8"))).replace("</", "<\
 for mark, value in (("@POLICY@", policy), ("@WASM@", base64.b64encode(octets).decode()), ("@SAMPLES@", lists)):
     assert text.count(mark) == 1, mark
     text = text.replace(mark, value)
+# Where 'dlms explain --html' writes a log.
+assert text.count('<script type="application/octet-stream" id="log" data-name=""></script>') == 1
 open(out, "w", encoding="utf-8").write(text)

@@ -1,2 +1,3 @@
 mod HandleValues
 mod Values
+pub mod StationLemmas

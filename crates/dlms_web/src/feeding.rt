@@ -1,13 +1,14 @@
 //! An explanation of a log or a capture that comes in pieces.
-ghost use Rattle.std.specs.Prelude.{◌≡◌, ◌≢◌, ◌⊎◌, ℕ, List, true, false};
+ghost use Rattle.std.specs.Prelude.{◌≡◌, ◌≢◌, ◌⊎◌, ◌↔◌, ℕ, List, true, false};
 ghost use Rattle.std.specs.Str.{IsUtf8};
+ghost use Rattle.dlms_web.specs.Stations.{AreStations};
 ghost use Rattle.dlms_web.specs.Text.{Puts};
-ghost use Rattle.dlms_web.specs.declared.codes.TheConstants.{DONE, EMPTY, MEMORY, SHORT};
+ghost use Rattle.dlms_web.specs.declared.codes.TheConstants.{ARGUMENT, DONE, EMPTY, MEMORY, SHORT};
 
-use crate::codes::{DONE, EMPTY, MEMORY};
+use crate::codes::{ARGUMENT, DONE, EMPTY, MEMORY};
 use crate::feed_handle::{FeedHandle, kept, none, settled, take_kept};
 use crate::kept_feed::KeptFeed;
-use crate::keys::{PageKeys, keys_of};
+use crate::keys::{PageKeys, are_stations};
 use crate::loose::Loose;
 use dlms_explain::{Form, Layout};
 use dlms_room::{Bump, Room, RoomHeap, Spent};
@@ -58,16 +59,17 @@ fn heap_over(room: Room) -> Result<&'static RoomHeap, AllocError> {
 }
 
 /// An explanation that begins.
-fn begun(room: Room, form: Form, keys: PageKeys, front: &[u8]) -> Result<FeedHandle, AllocError> {
+fn begun(room: Room, form: Form, keys: &[u8], front: &[u8]) -> Result<FeedHandle, AllocError> {
     let heap = heap_over(room)?;
+    let keys = PageKeys::over(heap, keys)?;
     let held = Box::new(heap, KeptFeed::new(heap, form, keys, front))?;
     Ok(kept(settled(Loose::of(held))))
 }
 
 /// Begins the explanation of an input that begins with these octets, of which four are looked at. The flags: 1 one line a frame,
-/// 2 a frame's octets beside it, 4 JSON, 8 strings that may be a secret too. The keys open ciphered APDUs: a system title of 8 octets,
-/// an encryption key of 16 and an authentication key of 16, which may be missing; or nothing. The room is its memory for good, and an
-/// explanation that the handle had is forgotten.
+/// 2 a frame's octets beside it, 4 JSON, 8 strings that may be a secret too. The keys open ciphered APDUs: at most 256 stations of 41
+/// octets, each a system title of 8, an encryption key of 16, an octet that is 0 if there is no authentication key, and that key of 16;
+/// keys of another length are refused. The room is its memory for good, and an explanation that the handle had is forgotten.
 #[unsafe(no_mangle)]
 pub extern "C" fn web_open(
     room: Room,
@@ -76,9 +78,14 @@ pub extern "C" fn web_open(
     front: &[u8],
     feed: &mut FeedHandle,
 ) -> u32
-    ensures { (result ≡ DONE) ⊎ (result ≡ MEMORY) }
+    ensures code { (result ≡ DONE) ⊎ (result ≡ MEMORY) ⊎ (result ≡ ARGUMENT) }
+    ensures argument { (result ≡ ARGUMENT) ↔ (AreStations keys.now → ⊥) }
 {
-    match begun(room, form_of(flags), keys_of(keys), front) {
+    if !are_stations(keys) {
+        *feed = none();
+        return ARGUMENT;
+    }
+    match begun(room, form_of(flags), keys, front) {
         Ok(handle) => {
             *feed = handle;
             DONE

@@ -1,169 +1,108 @@
-//! The keys of a station, as the page sends them, and what they open: as `dlms explain --keys` does with a file of one station.
+//! The keys of stations, as the page sends them. They open ciphered APDUs as `dlms explain --keys` does with a file of these stations.
+ghost use Rattle.std.specs.Prelude.{◌≡◌, ◌≤◌, ◌↔◌, IsTrue, IsNone, IfOk, IfSome, MatchResult, Ok, Err, None, option_map, take, drop};
+ghost use Rattle.dlms_keys.specs.Keyring.{opening_among};
+ghost use Rattle.dlms_web.specs.Stations.{AreStations, keyring_in, station_in, stations_in};
 
-use arrayvec::ArrayVec;
-use dlms_cipher::Keys;
-use dlms_security::{
-    Closed, Header, KeyKind, Known, MOST_APDU, Opener, Plain, Policy, UnprotectFault, header_of,
-    open_message,
-};
+use dlms_keys::{Keyring, Station};
+use dlms_room::RoomHeap;
+use dlms_security::{Closed, Known, Opener, Plain};
+use std::alloc::AllocError;
 
-/// The keys of a station. They have no `Debug` form, so that no key is printed by mistake.
-#[derive(Clone, Copy)]
-pub struct Station {
-    title: [u8; 8],
-    encryption_key: [u8; 16],
-    authentication_key: Option<[u8; 16]>,
-}
+/// The octets of a station: a system title of 8, an encryption key of 16, one that is 0 if there is no authentication key, and the
+/// authentication key of 16.
+const STATION: usize = 41;
 
-/// What the page gave: the keys of a station, or none.
+/// Where each begins.
+const ENCRYPTION: usize = 8;
+
+const HAS_AUTHENTICATION: usize = 24;
+
+const AUTHENTICATION: usize = 25;
+
+/// The most stations, as in a file.
+const MOST_STATIONS: usize = 256;
+
+/// The keys that the page sent: those of stations, or none.
 #[derive(Clone, Copy)]
 pub struct PageKeys {
-    station: Option<Station>,
+    keyring: Option<Keyring<'static>>,
 }
 
-/// The first 16 octets.
-fn key_at(octets: &[u8]) -> Option<[u8; 16]> {
-    octets.first_chunk::<16>().copied()
+/// Whether octets are those of stations, and of at most 256.
+pub fn are_stations(octets: &[u8]) -> bool
+    ensures { IsTrue result ↔ AreStations octets.now }
+{
+    octets.len() % STATION == 0 && octets.len() <= STATION * MOST_STATIONS
+}
+
+/// The 16 octets of a key, from this place on.
+fn key_at(octets: &[u8; STATION], at: usize) -> [u8; 16]
+    requires { at ≤ 25 }
+    ensures { result ≡ take 16 (drop at octets.now) }
+{
+    let mut key = [0; 16];
+    key.copy_from_slice(&octets[at..at + 16]);
+    key
 }
 
 /// The station of these octets.
-fn station_of(octets: &[u8]) -> Option<Station> {
-    let title = octets.first_chunk::<8>().copied()?;
-    let rest = octets.get(8..)?;
-    let encryption_key = key_at(rest)?;
-    let rest = rest.get(16..)?;
-    Some(Station {
+fn station_of(octets: &[u8; STATION]) -> Station
+    ensures { result ≡ station_in octets.now }
+{
+    let mut title = [0; 8];
+    title.copy_from_slice(&octets[..ENCRYPTION]);
+    let has_authentication = octets[HAS_AUTHENTICATION] != 0;
+    Station {
         title,
-        encryption_key,
-        authentication_key: key_at(rest),
-    })
-}
-
-/// The keys of these octets: a system title, an encryption key and, if there is one, an authentication key; none if they are too few.
-pub fn keys_of(octets: &[u8]) -> PageKeys {
-    PageKeys {
-        station: station_of(octets),
+        encryption_key: key_at(octets, ENCRYPTION),
+        authentication_key: has_authentication.then_some(key_at(octets, AUTHENTICATION)),
     }
 }
 
-/// The first of two titles.
-fn first_title(named: Option<[u8; 8]>, other: Option<[u8; 8]>) -> Option<[u8; 8]> {
-    match named {
-        Some(title) => Some(title),
-        None => other,
+/// The stations of these octets, in a heap that is never given back.
+#[tactic(auto, using(crate::proofs::StationLemmas::stations_more))]
+fn stations_of(heap: &'static RoomHeap, octets: &[u8]) -> Result<&'static [Station], AllocError>
+    ensures { IfOk result (λ stations. stations.now ≡ stations_in octets.now) }
+{
+    let (parts, _) = octets.as_chunks::<STATION>();
+    let mut stations = Vec::new(heap);
+    for part in parts {
+        stations.push(station_of(part))?;
     }
+    Ok(stations.leak())
 }
 
-/// Whether a title is this one.
-fn is_title(title: &[u8; 8], other: Option<[u8; 8]>) -> bool {
-    match other {
-        Some(other) => *title == other,
-        None => false,
+impl PageKeys {
+    /// The keys of the stations of these octets, which are kept in a heap; none if there are no octets.
+    pub fn over(heap: &'static RoomHeap, octets: &[u8]) -> Result<PageKeys, AllocError>
+        ensures { IfOk result (λ keys. option_map (λ keyring. keyring.stations.now) keys.keyring
+            ≡ keyring_in octets.now) }
+    {
+        if octets.is_empty() {
+            return Ok(PageKeys { keyring: None });
+        }
+        let stations = stations_of(heap, octets)?;
+        Ok(PageKeys {
+            keyring: Some(Keyring::over(stations)),
+        })
     }
-}
 
-/// Whether the station is the sender or the receiver of a message with this header.
-fn is_near(station: &Station, known: &Known, header: Header) -> bool {
-    is_title(&station.title, header.title)
-        || is_title(&station.title, known.sender)
-        || is_title(&station.title, known.receiver)
-}
-
-/// Whether messages of a policy have a tag.
-fn has_tag(policy: Policy) -> bool {
-    match policy {
-        Policy::Authenticated | Policy::AuthenticatedEncrypted => true,
-        Policy::Encrypted => false,
-    }
-}
-
-/// The encryption key of a kind of message.
-fn encryption_for(
-    kind: KeyKind,
-    dedicated: Option<[u8; 16]>,
-    station: &Station,
-) -> Result<[u8; 16], Closed> {
-    match (kind, dedicated) {
-        (KeyKind::Global, _) => Ok(station.encryption_key),
-        (KeyKind::Dedicated, Some(key)) => Ok(key),
-        (KeyKind::Dedicated, None) => Err(Closed::NoDedicatedKey),
-    }
-}
-
-/// The authentication key of a message under this policy; any, if it has no tag.
-fn authentication_for(policy: Policy, station: &Station) -> Result<[u8; 16], Closed> {
-    match (station.authentication_key, policy) {
-        (Some(key), _) => Ok(key),
-        (None, Policy::Encrypted) => Ok([0; 16]),
-        (None, _) => Err(Closed::NoAuthenticationKey),
-    }
-}
-
-/// The APDU in a message with this header under the keys of the station.
-fn open_with(
-    station: &Station,
-    known: &Known,
-    policy: Policy,
-    header: Header,
-    message: &[u8],
-) -> Result<ArrayVec<u8, MOST_APDU>, Closed> {
-    let encryption = encryption_for(header.kind, known.dedicated_key, station)?;
-    let authentication = authentication_for(policy, station)?;
-    let title = match first_title(header.title, known.sender) {
-        Some(title) => title,
-        None => station.title,
-    };
-    match open_message(&Keys::new(encryption, authentication), &title, message) {
-        Ok(apdu) => Ok(apdu),
-        Err(fault) => Err(Closed::Refused(fault)),
-    }
-}
-
-/// The same; of a message that is not the station's only one with a tag that is right is opened.
-fn open_under(
-    station: &Station,
-    known: &Known,
-    policy: Policy,
-    header: Header,
-    message: &[u8],
-) -> Result<ArrayVec<u8, MOST_APDU>, Closed> {
-    let sender = first_title(header.title, known.sender);
-    if sender.is_none() && !has_tag(policy) {
-        return Err(Closed::UnknownTitle);
-    }
-    let opened = open_with(station, known, policy, header, message);
-    if is_near(station, known, header) || has_tag(policy) && opened.is_ok() {
-        return opened;
-    }
-    if sender.is_some() {
-        Err(Closed::NoKey)
-    } else {
-        Err(Closed::UnknownTitle)
-    }
-}
-
-/// The APDU in a message of a log, or why it is not opened.
-fn opened(station: &Station, known: &Known, message: &[u8]) -> Result<Plain, Closed> {
-    let Some(header) = header_of(message) else {
-        return Err(Closed::Refused(UnprotectFault::NotProtected));
-    };
-    let Some(policy) = header.policy else {
-        return Err(Closed::Refused(UnprotectFault::AnotherControl));
-    };
-    match open_under(station, known, policy, header, message) {
-        Ok(apdu) => Ok(Plain {
-            is_authenticated: has_tag(policy),
-            apdu,
-        }),
-        Err(closed) => Err(closed),
+    /// Returns the APDU in a message of a log, or why it is not opened; `None` without keys.
+    fn open_message(&self, known: &Known, message: &[u8]) -> Option<Result<Plain, Closed>>
+        ensures none { IsNone result ↔ (self.now.keyring ≡ None) }
+        ensures some { IfSome result (λ opened. IfSome self.now.keyring (λ keyring.
+            let by = opening_among keyring.stations.now known.now message.now in
+            MatchResult opened (λ plain. by ≡ Ok plain.apdu.items) (λ closed. by ≡ Err closed))) }
+    {
+        match self.keyring {
+            Some(keyring) => Some(keyring.open_message(known, message)),
+            None => None,
+        }
     }
 }
 
 impl Opener for PageKeys {
     fn open(&self, known: &Known, message: &[u8]) -> Option<Result<Plain, Closed>> {
-        match self.station {
-            Some(station) => Some(opened(&station, known, message)),
-            None => None,
-        }
+        self.open_message(known, message)
     }
 }
