@@ -134,7 +134,7 @@ abbrev pub poll_command : App
 poll_command = with_rules (with_rules (new_app (codes "poll"))
     (wanted_rule (codes "PLACE") ∷ option_rule (codes "readings") ∷ flag_rule (codes "public")
     ∷ flag_rule (codes "reader") ∷ number_rule (codes "deadline") 1 86400
-    ∷ flag_rule (codes "check-clock") ∷ number_rule (codes "ahead") 0 31536000
+    ∷ number_rule (codes "rows-per-request") 2 100000 ∷ flag_rule (codes "check-clock") ∷ number_rule (codes "ahead") 0 31536000
     ∷ flag_rule (codes "strict") ∷ options_rule (codes "expect") ∷ flag_rule (codes "json")
     ∷ flag_rule (codes "quiet") ∷ []))
     polling_rules
@@ -142,8 +142,8 @@ poll_command = with_rules (with_rules (new_app (codes "poll"))
 abbrev pub collect_command : App
 collect_command = with_rules (new_app (codes "collect"))
     (wanted_rule (codes "LIST") ∷ option_rule (codes "readings")
-    ∷ option_rule (codes "get") ∷ option_rule (codes "secret-file") ∷ number_rule (codes "client") 1 127
-    ∷ number_rule (codes "at-once") 1 100000 ∷ number_rule (codes "deadline") 1 86400
+    ∷ option_rule (codes "get") ∷ flag_rule (codes "clock") ∷ option_rule (codes "secret-file")
+    ∷ number_rule (codes "client") 1 127 ∷ number_rule (codes "at-once") 1 100000 ∷ number_rule (codes "deadline") 1 86400
     ∷ number_rule (codes "every") 1 31536000 ∷ number_rule (codes "retries") 0 100
     ∷ option_rule (codes "failed") ∷ flag_rule (codes "quiet") ∷ flag_rule (codes "json") ∷ [])
 
@@ -188,7 +188,8 @@ abbrev pub explain_command : App
 explain_command = with_rules (new_app (codes "explain"))
     (value_rule (codes "FILE") ∷ flag_rule (codes "raw") ∷ flag_rule (codes "short")
     ∷ flag_rule (codes "hex") ∷ flag_rule (codes "json") ∷ option_rule (codes "keys")
-    ∷ option_rule (codes "color") ∷ flag_rule (codes "quiet") ∷ [])
+    ∷ option_rule (codes "color") ∷ option_rule (codes "html") ∷ option_rule (codes "page")
+    ∷ flag_rule (codes "quiet") ∷ [])
 
 abbrev pub show_command : App
 show_command = with_rules (new_app (codes "show"))

@@ -205,6 +205,7 @@ Asks met (Poll options) = (rows : List Row) × (met ≡ Some (codes "poll", rows
     × IsAsker rows options.client
     × MaySayFor (codes "client") rows options.sap
     × IsSaidFor (codes "deadline") rows DEADLINE options.deadline
+    × MaySayFor (codes "rows-per-request") rows options.rows
     × ChecksClock rows options.ahead
     × IsSaid (first_of (codes "strict") rows) options.strict
     × IsExpecting (all_of (codes "expect") rows) options.expecting
@@ -214,6 +215,7 @@ Asks met (Collect options) = (rows : List Row) × (met ≡ Some (codes "collect"
     × (options.list.now ≡ unwrap_or (first_of (codes "LIST") rows) [])
     × (option_map (λ f. f.now) options.readings ≡ first_of (codes "readings") rows)
     × (option_map (λ f. f.now) options.get ≡ first_of (codes "get") rows)
+    × IsSaid (first_of (codes "clock") rows) options.clock
     × (option_map (λ f. f.now) options.secret_file ≡ first_of (codes "secret-file") rows)
     × MaySayFor (codes "client") rows options.client
     × IsSaidFor (codes "at-once") rows AT_ONCE options.at_once
@@ -265,6 +267,8 @@ Asks met (Explain options) = (rows : List Row) × (met ≡ Some (codes "explain"
     × IsSaid (first_of (codes "hex") rows) options.hex × ChoosesFormat rows options.format
     × (option_map (λ f. f.now) options.keys ≡ first_of (codes "keys") rows)
     × (options.color ≡ color_by (first_of (codes "color") rows))
+    × (option_map (λ f. f.now) options.html ≡ first_of (codes "html") rows)
+    × (option_map (λ f. f.now) options.page ≡ first_of (codes "page") rows)
     × IsSaid (first_of (codes "quiet") rows) options.quiet
 Asks met (Show options) = (rows : List Row) × (met ≡ Some (codes "show", rows))
     × (options.file.now ≡ unwrap_or (file_in rows) [])
@@ -380,16 +384,49 @@ CollectsBoth met = (rows : List Row) × (met ≡ Some (codes "collect", rows))
     × IsTrue (is_some (first_of (codes "readings") rows))
     × IsTrue (is_some (first_of (codes "get") rows))
 
--- they are to be neither
+-- their clocks are to be compared, and they are to be polled, or to be asked for attributes
+abbrev pub ComparesToo : Met → Type 0
+ComparesToo met = NamesAnd (codes "collect") (codes "readings") (codes "clock") met
+    ⊎ NamesAnd (codes "collect") (codes "get") (codes "clock") met
+
+-- none of the three is wanted
 abbrev pub CollectsNothing : Met → Type 0
 CollectsNothing met = (rows : List Row) × (met ≡ Some (codes "collect", rows))
     × (first_of (codes "readings") rows ≡ None) × (first_of (codes "get") rows ≡ None)
+    × (first_of (codes "clock") rows ≡ Some (codes "true") → ⊥)
+
+-- two options of this command are named
+abbrev pub NamesBoth : (command first second : Text) → Met → Type 0
+NamesBoth command first second met = (rows : List Row) × (met ≡ Some (command, rows))
+    × IsTrue (is_some (first_of first rows)) × IsTrue (is_some (first_of second rows))
+
+-- a report is wanted, and a layout of its text
+abbrev pub LaysOutReport : Met → Type 0
+LaysOutReport met = NamesAnd (codes "explain") (codes "html") (codes "json") met
+    ⊎ NamesAnd (codes "explain") (codes "html") (codes "short") met
+    ⊎ NamesAnd (codes "explain") (codes "html") (codes "hex") met
+
+-- a report is wanted, and what its text shows
+abbrev pub FillsReport : Met → Type 0
+FillsReport met = NamesAnd (codes "explain") (codes "html") (codes "raw") met
+    ⊎ NamesBoth (codes "explain") (codes "html") (codes "keys") met
+    ⊎ NamesBoth (codes "explain") (codes "html") (codes "color") met
+
+-- a report is wanted, which is explained once it is opened, and how its text is printed
+abbrev pub PrintsReport : Met → Type 0
+PrintsReport met = LaysOutReport met ⊎ FillsReport met
+
+-- a page is named for no report
+abbrev pub PagesNothing : Met → Type 0
+PagesNothing met = (rows : List Row) × (met ≡ Some (codes "explain", rows))
+    × IsTrue (is_some (first_of (codes "page") rows)) × (first_of (codes "html") rows ≡ None)
 
 -- two are given and one is wanted, or one is given that needs another
 abbrev pub AsksBoth : Met → Type 0
 AsksBoth met = AsksTwoClients met ⊎ GivesClientTwice met ⊎ NamesTwoPlaces met ⊎ WrapsLine met
     ⊎ AsksTwoDemos met ⊎ WidensPort met ⊎ SizesMessages met ⊎ ShowsSecret met ⊎ ReadsIdleCounter met
-    ⊎ ExpectsInClear met ⊎ CollectsBoth met ⊎ CollectsNothing met
+    ⊎ ExpectsInClear met ⊎ CollectsBoth met ⊎ ComparesToo met ⊎ CollectsNothing met
+    ⊎ PrintsReport met ⊎ PagesNothing met
 
 -- the text that the command line gives for this option or operand of the command
 abbrev pub value_in : Text → Met → Option Text

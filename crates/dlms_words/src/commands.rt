@@ -167,6 +167,8 @@ pub struct PollOptions<'a> {
     pub sap: Option<u32>,
     /// How many seconds the poll may take.
     pub deadline: u32,
+    /// How many rows one request asks for at most, if the poll is to be done in parts.
+    pub rows: Option<u32>,
     /// By how many seconds a row's clock may be ahead of the system's, if that is checked.
     pub ahead: Option<u32>,
     /// Whether each row has to be later than the one before it.
@@ -187,6 +189,8 @@ pub struct CollectOptions<'a> {
     pub readings: Option<&'a str>,
     /// The names of the attributes that are requested instead, with commas between them.
     pub get: Option<&'a str>,
+    /// Whether clocks are compared instead.
+    pub clock: bool,
     /// The file of the client's secret, for meters whose line names none.
     pub secret_file: Option<&'a str>,
     /// The address of the client, 1 to 127, for meters whose line names none, if one is given.
@@ -299,6 +303,10 @@ pub struct ExplainOptions<'a> {
     /// The file with the keys that open ciphered APDUs.
     pub keys: Option<&'a str>,
     pub color: ColorChoice,
+    /// The file of the report, if one is wanted instead of a text.
+    pub html: Option<&'a str>,
+    /// The page that the report is made of.
+    pub page: Option<&'a str>,
     /// Whether no progress is shown.
     pub quiet: bool,
 }

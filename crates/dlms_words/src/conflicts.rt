@@ -1,7 +1,7 @@
 //! Options that exclude each other, and addresses that are invalid.
 ghost use Rattle.std.specs.Prelude.{◌≡◌, ◌↔◌, option_map, IfNone, OnSome, IsTrue};
 ghost use Rattle.clap.specs.Words.{subcommand_rows_of};
-ghost use Rattle.dlms_words.specs.Words.{GivesClientTwice, NamesAnd, GivesBoth, AsksBoth, IsInvalid, NamesNoAddress, NamesNoColor, NamesNoShell, is_color, is_shell, value_in, NamesTwoPlaces, ReadsIdleCounter, CollectsBoth, CollectsNothing, ShowsSecret, SizesMessages, WidensPort, ExpectsInClear, NamesNoPlace};
+ghost use Rattle.dlms_words.specs.Words.{GivesClientTwice, NamesAnd, GivesBoth, AsksBoth, IsInvalid, NamesNoAddress, NamesNoColor, NamesNoShell, is_color, is_shell, value_in, NamesTwoPlaces, ReadsIdleCounter, CollectsBoth, CollectsNothing, ComparesToo, ShowsSecret, SizesMessages, WidensPort, ExpectsInClear, FillsReport, LaysOutReport, NamesBoth, NamesNoPlace, PagesNothing, PrintsReport};
 
 use crate::addresses::{is_address, is_place};
 use crate::values::{is_given, is_named, value_for};
@@ -37,8 +37,19 @@ const EXPECTS_IN_CLEAR: &str = "the argument '--expect' cannot be used with '--s
 /// The message if the meters of a list are to be polled and to be asked for attributes.
 const TWO_PURPOSES: &str = "the argument '--get' cannot be used with '--readings'";
 
-/// The message if they are to be neither.
-const NO_PURPOSE: &str = "one of the arguments '--readings <DIR>' and '--get <NAMES>' is required";
+/// The message if they are, or one of them, and their clocks are to be compared.
+const COMPARES_TOO: &str = "the argument '--clock' cannot be used with '--get' or '--readings'";
+
+/// The message if none of the three is wanted.
+const NO_PURPOSE: &str =
+    "one of the arguments '--readings <DIR>', '--get <NAMES>' and '--clock' is required";
+
+/// The message if a report is wanted, and how a text is printed.
+const TEXT_OF_REPORT: &str =
+    "the argument '--html' cannot be used with '--json', '--short', '--hex', '--raw', '--keys' or '--color'";
+
+/// The message if a page is named for no report.
+const NO_REPORT: &str = "the argument '--page' cannot be used without '--html'";
 
 /// The message if two days of captures are asked for.
 const TWO_DEMOS: &str = "the argument '--demo' cannot be used with '--demo-day'";
@@ -84,6 +95,56 @@ fn names_and(matches: &ArgMatches<'_>, command: &str, option: &str, flag: &str) 
     let is_option = is_named(matches, command, option);
     let is_flag = is_given(value_for(matches, command, flag));
     is_option && is_flag
+}
+
+/// Whether two options of a command were named.
+fn names_both(matches: &ArgMatches<'_>, command: &str, first: &str, second: &str) -> bool
+    ensures { IsTrue result ↔ NamesBoth command.now first.now second.now
+        (subcommand_rows_of matches.now) }
+{
+    if matches.subcommand_name() != Some(command) {
+        return false;
+    }
+    let has_first = is_named(matches, command, first);
+    let has_second = is_named(matches, command, second);
+    has_first && has_second
+}
+
+/// Whether a report is wanted, and a layout of its text.
+fn lays_out_report(matches: &ArgMatches<'_>) -> bool
+    ensures { IsTrue result ↔ LaysOutReport (subcommand_rows_of matches.now) }
+{
+    names_and(matches, "explain", "html", "json")
+        || names_and(matches, "explain", "html", "short")
+        || names_and(matches, "explain", "html", "hex")
+}
+
+/// Whether a report is wanted, and what its text shows.
+fn fills_report(matches: &ArgMatches<'_>) -> bool
+    ensures { IsTrue result ↔ FillsReport (subcommand_rows_of matches.now) }
+{
+    names_and(matches, "explain", "html", "raw")
+        || names_both(matches, "explain", "html", "keys")
+        || names_both(matches, "explain", "html", "color")
+}
+
+/// Whether a report is wanted, which is explained once it is opened, and how its text is printed.
+fn prints_report(matches: &ArgMatches<'_>) -> bool
+    ensures { IsTrue result ↔ PrintsReport (subcommand_rows_of matches.now) }
+{
+    lays_out_report(matches) || fills_report(matches)
+}
+
+/// Whether a page is named for no report.
+fn pages_nothing(matches: &ArgMatches<'_>) -> bool
+    ensures { IsTrue result ↔ PagesNothing (subcommand_rows_of matches.now) }
+{
+    if matches.subcommand_name() != Some("explain") {
+        return false;
+    }
+    let has_page = is_named(matches, "explain", "page");
+    let has_report = is_named(matches, "explain", "html");
+    has_page && !has_report
 }
 
 /// Whether a client is given by its address and by its name.
@@ -177,7 +238,15 @@ fn collects_both(matches: &ArgMatches<'_>) -> bool
     polls && gets
 }
 
-/// Whether they are to be neither.
+/// Whether their clocks are to be compared, and they are to be polled, or to be asked for attributes.
+fn compares_too(matches: &ArgMatches<'_>) -> bool
+    ensures { IsTrue result ↔ ComparesToo (subcommand_rows_of matches.now) }
+{
+    names_and(matches, "collect", "readings", "clock")
+        || names_and(matches, "collect", "get", "clock")
+}
+
+/// Whether none of the three is wanted.
 fn collects_nothing(matches: &ArgMatches<'_>) -> bool
     ensures { IsTrue result ↔ CollectsNothing (subcommand_rows_of matches.now) }
 {
@@ -186,7 +255,8 @@ fn collects_nothing(matches: &ArgMatches<'_>) -> bool
     }
     let polls = is_named(matches, "collect", "readings");
     let gets = is_named(matches, "collect", "get");
-    !polls && !gets
+    let compares = is_given(value_for(matches, "collect", "clock"));
+    !polls && !gets && !compares
 }
 
 /// The message if two are given and one is wanted, or one is given that needs another.
@@ -227,8 +297,17 @@ pub fn conflict(matches: &ArgMatches<'_>) -> Option<&'static str>
     if collects_both(matches) {
         return Some(TWO_PURPOSES);
     }
+    if compares_too(matches) {
+        return Some(COMPARES_TOO);
+    }
     if collects_nothing(matches) {
         return Some(NO_PURPOSE);
+    }
+    if prints_report(matches) {
+        return Some(TEXT_OF_REPORT);
+    }
+    if pages_nothing(matches) {
+        return Some(NO_REPORT);
     }
     None
 }

@@ -56,6 +56,7 @@ pub const POLL: &str =
     "Prints a line clock,r0,r1,r2 for each new row. With --readings it asks for rows from FILE's last row
 on, and files the new ones: a power failure leaves either the old file or the new one.
 Without --secret-file management sends 12345678 over HDLC, and the reader 23456789.
+Over a slow line --rows-per-request files part after part: a poll that is cut off keeps what it filed.
 
 Examples:
   dlms poll 127.0.0.1:4059 --readings readings.csv
@@ -65,11 +66,13 @@ Examples:
 pub const COLLECT: &str =
     "Each line of LIST is NAME PLACE, and if needed client=, server=, carrier=, secret-file=, security= or
 expect=, the logical device name. The rows of a meter go to NAME.csv in DIR, and are printed after its
-name. With --get its values are printed so instead, and nothing is filed.
+name. With --get its values are printed so instead, and nothing is filed; with --clock its time, and
+the seconds by which it is ahead.
 
 Examples:
   dlms collect meters.txt --readings readings --every 900 --failed failed.txt
-  dlms collect meters.txt --get 1.8.0,clock --json";
+  dlms collect meters.txt --get 1.8.0,clock --json
+  dlms collect meters.txt --clock";
 
 /// The notes of `get`.
 pub const GET: &str =
@@ -94,8 +97,8 @@ pub const PROFILE: &str =
     "A TIME is a date, or a date and a time, in the meter's own time; a date alone is all of that day.
 
 Examples:
-  dlms profile 127.0.0.1:4059 --from 2026-01-01 --csv
-  dlms profile 127.0.0.1:4059 1-0:98.1.0*255 --last 12";
+  dlms profile 127.0.0.1:4059 --client 1 --secret-file secret --from 2026-01-01 --csv
+  dlms profile 127.0.0.1:4059 1-0:98.1.0*255 --client 1 --secret-file secret --last 12";
 
 /// The notes of `clock`.
 pub const CLOCK: &str =
@@ -127,10 +130,12 @@ Examples:
 pub const EXPLAIN: &str =
     "Reads a capture (pcap, pcapng), or lines as '> HEX' to a meter and '< HEX' from it, TX and RX, or send
 and recv, with any words before. No secret is printed; --raw prints strings that may be one.
+The file of --html contains the whole log, with its secrets, for a browser.
 
 Examples:
   dlms explain line.log
-  dlms explain traffic.pcapng --short --keys stations.toml";
+  dlms explain traffic.pcapng --short --keys stations.toml
+  dlms explain line.log --html report.html";
 
 /// The notes of `show`.
 pub const SHOW: &str =

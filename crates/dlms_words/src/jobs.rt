@@ -135,6 +135,7 @@ pub fn poll_job<'a>(matches: &ArgMatches<'a>) -> Job<'a>
         client: asker(public, reader),
         sap: given_number_for(matches, "poll", "client"),
         deadline: number_for(matches, "poll", "deadline", DEADLINE),
+        rows: given_number_for(matches, "poll", "rows-per-request"),
         ahead: ahead(checks, value_for(matches, "poll", "ahead")),
         strict,
         expecting: expecting(matches),
@@ -150,10 +151,12 @@ fn collect_job<'a>(matches: &ArgMatches<'a>) -> Job<'a>
 {
     let quiet = is_given(value_for(matches, "collect", "quiet"));
     let json = is_given(value_for(matches, "collect", "json"));
+    let clock = is_given(value_for(matches, "collect", "clock"));
     Job::Collect(CollectOptions {
         list: value_for(matches, "collect", "LIST").unwrap_or(""),
         readings: value_for(matches, "collect", "readings"),
         get: value_for(matches, "collect", "get"),
+        clock,
         secret_file: value_for(matches, "collect", "secret-file"),
         client: given_number_for(matches, "collect", "client"),
         at_once: number_for(matches, "collect", "at-once", AT_ONCE),
@@ -224,6 +227,8 @@ fn explain_job<'a>(matches: &ArgMatches<'a>) -> Job<'a>
         format: output_format(json),
         keys: value_for(matches, "explain", "keys"),
         color: color_choice(value_for(matches, "explain", "color")),
+        html: value_for(matches, "explain", "html"),
+        page: value_for(matches, "explain", "page"),
         quiet,
     })
 }

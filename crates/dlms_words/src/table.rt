@@ -203,6 +203,11 @@ pub const COMMANDS: [CommandWords; 20] = [
             },
             DEADLINE,
             Argument {
+                name: "rows-per-request",
+                kind: Kind::Number("N", 2, 100_000),
+                help: "Asks for N rows at a time, and files them at once",
+            },
+            Argument {
                 name: "check-clock",
                 kind: Kind::Flag,
                 help: "Refuses rows far past the system's clock",
@@ -250,6 +255,11 @@ pub const COMMANDS: [CommandWords; 20] = [
                 name: "get",
                 kind: Kind::Option("NAMES"),
                 help: "Asks for these attributes instead, up to 16",
+            },
+            Argument {
+                name: "clock",
+                kind: Kind::Flag,
+                help: "Compares their clocks with the system's instead",
             },
             SECRET_FILE,
             Argument {
@@ -462,6 +472,16 @@ pub const COMMANDS: [CommandWords; 20] = [
                 name: "color",
                 kind: Kind::Option("WHEN"),
                 help: "Colors: auto, always or never [default: auto]",
+            },
+            Argument {
+                name: "html",
+                kind: Kind::Option("FILE"),
+                help: "Writes the log into a copy of PAGE, which explains it in a browser",
+            },
+            Argument {
+                name: "page",
+                kind: Kind::Option("PAGE"),
+                help: "The page of --html [default: dlms-explain.html]",
             },
             QUIET,
         ],

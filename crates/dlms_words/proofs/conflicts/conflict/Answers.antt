@@ -27,7 +27,16 @@ returns-clause-none c = λ both. elim both [
                     | inl it ↦ no_truth _ c.if-expects_in_clear.false (c.expects_in_clear.ensures.1 it)
                     | inr rest ↦ elim rest [
                       | inl it ↦ no_truth _ c.if-collects_both.false (c.collects_both.ensures.1 it)
-                      | inr rest ↦ no_truth _ c.if-collects_nothing.false (c.collects_nothing.ensures.1 rest)
+                      | inr rest ↦ elim rest [
+                        | inl it ↦ no_truth _ c.if-compares_too.false (c.compares_too.ensures.1 it)
+                        | inr rest ↦ elim rest [
+                          | inl it ↦ no_truth _ c.if-collects_nothing.false (c.collects_nothing.ensures.1 it)
+                          | inr rest ↦ elim rest [
+                            | inl it ↦ no_truth _ c.if-prints_report.false (c.prints_report.ensures.1 it)
+                            | inr rest ↦ no_truth _ c.if-pages_nothing.false (c.pages_nothing.ensures.1 rest)
+                          ]
+                        ]
+                      ]
                     ]
                   ]
                 ]
@@ -39,3 +48,15 @@ returns-clause-none c = λ both. elim both [
     ]
   ]
 ]
+
+pub returns-then-prints_report-clause-some : goal.returns-then-prints_report-clause-some
+returns-then-prints_report-clause-some c = inr (inr (inr (inr (inr (inr (inr (inr (inr (inr (inr (inr (inr (inl (c.prints_report.ensures.0 c.if-prints_report.true))))))))))))))
+
+pub returns-then-pages_nothing-clause-some : goal.returns-then-pages_nothing-clause-some
+returns-then-pages_nothing-clause-some c = inr (inr (inr (inr (inr (inr (inr (inr (inr (inr (inr (inr (inr (inr (c.pages_nothing.ensures.0 c.if-pages_nothing.true))))))))))))))
+
+pub returns-then-compares_too-clause-some : goal.returns-then-compares_too-clause-some
+returns-then-compares_too-clause-some c = inr (inr (inr (inr (inr (inr (inr (inr (inr (inr (inr (inl (c.compares_too.ensures.0 c.if-compares_too.true))))))))))))
+
+pub returns-then-collects_nothing-clause-some : goal.returns-then-collects_nothing-clause-some
+returns-then-collects_nothing-clause-some c = inr (inr (inr (inr (inr (inr (inr (inr (inr (inr (inr (inr (inl (c.collects_nothing.ensures.0 c.if-collects_nothing.true)))))))))))))

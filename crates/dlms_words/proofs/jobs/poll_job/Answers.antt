@@ -19,6 +19,7 @@ returns c = λ rows met. (
   ),
   c.given_number_for.ensures rows met,
   c.number_for.ensures rows met,
+  c.given_number_for-2.ensures rows met,
   (
     c.is_given-checks.result,
     subst (λ (said : Option Text). IsSaid said c.is_given-checks.result) (c.value_for-3.ensures rows met) c.is_given-checks.ensures,
