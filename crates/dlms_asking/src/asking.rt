@@ -11,6 +11,7 @@ use crate::requests::{MeterSession, read_name};
 use crate::route::route_of;
 use crate::security::{heed_counter, keep_counter, parted, protection_for};
 use crate::setting::{Given, given_in};
+use crate::watched_line::{CountsOctets, OctetProgress, WatchedLine};
 use arrayvec::ArrayVec;
 use dlms_call::{CallFault, ClientEnd, begin};
 use dlms_client::{Plan, Route};
@@ -29,6 +30,7 @@ use dlms_words::{
     ProfileOptions, SetOptions, ValueFormat,
 };
 use std::alloc::Global;
+use std::cell::RefCell;
 use std::fs::File;
 use std::io;
 use std::io::{Read, Write};
@@ -38,10 +40,10 @@ use std::rt::Files;
 use std::time::Clock;
 
 /// The most bytes of an APDU.
-const SIZE: u16 = 1_024;
+pub const SIZE: u16 = 1_024;
 
 /// The frame counters that are reserved for an association.
-const FEW_COUNTERS: u32 = 1_000;
+pub const FEW_COUNTERS: u32 = 1_000;
 
 /// The frame counters for a further name: its value in a few blocks, its scaler, and the answer's confirmations.
 const NAME_COUNTERS: u32 = 16;
@@ -65,6 +67,7 @@ pub enum Request<'a> {
     },
     List {
         form: ListForm,
+        showing: Showing,
     },
     Set {
         name: &'a str,
@@ -122,7 +125,7 @@ fn run_request<'a, H: Clock, S: End, W: Write, P: Following>(
             class,
             format,
         } => talk.get_all(names, class, format, output),
-        Request::List { form } => talk.list_all(form, output),
+        Request::List { form, .. } => talk.list_all(form, output),
         Request::Set {
             name,
             value,
@@ -296,7 +299,7 @@ fn counters_for(asking: &Asking<'_>, request: &Request<'_>) -> u32 {
     let names = match request {
         Request::Set { .. } | Request::Act { .. } | Request::Clock(_) => return FEW_COUNTERS,
         Request::Get { names, .. } => names.bytes().filter(|octet| *octet == b',').count(),
-        Request::List { form } if form.has_values() => MOST_LISTED,
+        Request::List { form, .. } if form.has_values() => MOST_LISTED,
         _ => 0,
     };
     let for_names = u32::try_from(names)
@@ -383,6 +386,12 @@ impl<H: Net + Files<File = File> + Clock + AllocGlobal> Failing for MeterLine<'_
     }
 }
 
+impl<L: Failing, P> Failing for WatchedLine<'_, L, P> {
+    fn error(&self) -> Option<io::Error> {
+        self.line.error()
+    }
+}
+
 /// Whether a request prints values as JSON, and so reports the faults of single names as JSON.
 fn prints_json(waiting: &Option<Request<'_>>) -> bool {
     match waiting {
@@ -455,8 +464,77 @@ fn ask_over<
 fn showing_of(waiting: &Option<Request<'_>>) -> Showing {
     match waiting {
         Some(Request::Profile(profile)) => profile.showing(),
+        Some(Request::List { showing, .. }) => *showing,
         _ => Showing::Nothing,
     }
+}
+
+/// Whether the progress of a request is that of its octets.
+fn is_long(waiting: &Option<Request<'_>>) -> bool {
+    matches!(waiting, Some(Request::List { .. }))
+}
+
+/// Asks a meter over the line to it, whose octets are counted.
+fn ask_counted<
+    'a,
+    H: Clock + AllocGlobal,
+    L: Read + Write + Failing + Drop,
+    W: Write,
+    P: CountsOctets + Drop,
+>(
+    host: &H,
+    asking: &Asking<'a>,
+    plan: Plan,
+    protection: Option<Protection>,
+    line: L,
+    waiting: &mut Option<Request<'a>>,
+    output: &mut W,
+    progress: &RefCell<P>,
+    refused: &mut Vec<Fault<'a>>,
+) -> Result<(), Fault<'a>> {
+    let line = WatchedLine { line, progress };
+    ask_over(
+        host,
+        asking,
+        plan,
+        protection,
+        line,
+        waiting,
+        output,
+        &mut io::sink(),
+        &mut Unfollowed,
+        refused,
+    )
+}
+
+/// Asks a meter over the line to it, and shows on standard error how many octets have come.
+fn ask_with_octets<
+    'a,
+    H: Clock + AllocGlobal,
+    L: Read + Write + Failing + Drop,
+    W: Write,
+    E: Write,
+>(
+    host: &H,
+    asking: &Asking<'a>,
+    plan: Plan,
+    protection: Option<Protection>,
+    line: L,
+    waiting: &mut Option<Request<'a>>,
+    output: &mut W,
+    errors: &mut E,
+    refused: &mut Vec<Fault<'a>>,
+) -> Result<(), Fault<'a>> {
+    let showing = showing_of(waiting);
+    let progress = RefCell::new(OctetProgress::new(host, host.alloc(), errors, showing));
+    let told = ask_counted(
+        host, asking, plan, protection, line, waiting, output, &progress, refused,
+    );
+    if let Ok(mut progress) = progress.try_borrow_mut() {
+        progress.end();
+    }
+    drop(progress);
+    told
 }
 
 /// Asks a meter over the line to it, and shows the progress on standard error.
@@ -530,6 +608,18 @@ fn ask_once<
             output,
             errors,
             &mut Unfollowed,
+            &mut refused,
+        )
+    } else if is_long(waiting) {
+        ask_with_octets(
+            host,
+            asking,
+            plan,
+            protection,
+            line,
+            waiting,
+            output,
+            errors,
             &mut refused,
         )
     } else {
@@ -641,21 +731,27 @@ pub fn ask_to_get<
     ask(host, &options.asking, request, output, errors)
 }
 
-/// Asks a meter for its object list, and prints it.
+/// Asks a meter for its object list, and prints it. This is shown of the progress.
 #[inline(never)]
 pub fn ask_to_list<
     'a,
     H: Net + Files<File = File> + Clock + AllocGlobal + RandomSource,
     W: Write,
     E: Write,
->(host: &H, options: &ListOptions<'a>, output: &mut W, errors: &mut E) -> Result<(), Fault<'a>> {
+>(
+    host: &H,
+    options: &ListOptions<'a>,
+    showing: Showing,
+    output: &mut W,
+    errors: &mut E,
+) -> Result<(), Fault<'a>> {
     let form = match (options.format, options.long) {
         (OutputFormat::Json, true) => ListForm::LongJson,
         (OutputFormat::Json, false) => ListForm::Json,
         (OutputFormat::Text, true) => ListForm::Long,
         (OutputFormat::Text, false) => ListForm::Columns,
     };
-    let request = Request::List { form };
+    let request = Request::List { form, showing };
     ask(host, &options.asking, request, output, errors)
 }
 

@@ -4,7 +4,7 @@ ghost use Rattle.std.specs.Prelude.{◌≤◌};
 ghost use Rattle.dlms_data.specs.declared.date_time.TheConstants.{LAST_SECOND};
 
 use crate::given::now;
-use crate::requests::{CLOCK, MeterSession, SECOND, clock_in, is_answer};
+use crate::requests::{CLOCK, MeterSession, SECOND, clock_in, is_answer, second_of};
 use dlms_buffer::append_clock;
 use dlms_call::act;
 use dlms_data::{Data, Descriptor, LAST_SECOND, octet_string_of, octets, secs};
@@ -51,7 +51,7 @@ enum Correction {
 
 /// What a meter's clock showed, and the second of the system's clock then.
 #[derive(Clone, Copy)]
-struct Comparison {
+pub struct Comparison {
     shown: Option<[u8; 12]>,
     system: u32,
 }
@@ -108,6 +108,15 @@ fn append_time(text: &mut Vec<u8>, time: [u8; 12]) -> Result<bool, AllocError> {
 }
 
 impl Comparison {
+    /// What this encoding of a clock's time shows, and this second of the system's clock, counted from 1970 on. One that no meter's clock
+    /// can show is taken for the first second of 2000.
+    pub fn of(encoding: &[u8], second: u64) -> Self {
+        Comparison {
+            shown: clock_in(encoding),
+            system: second_of(second).unwrap_or(0),
+        }
+    }
+
     /// By how many seconds the meter's clock is ahead of the system's, if it shows a time.
     fn ahead(&self) -> Option<i64> {
         let shown = self.shown?;
@@ -147,6 +156,22 @@ impl Comparison {
         Ok(())
     }
 
+    /// Appends the meter's time and by how many seconds it is ahead, with a sign, as two fields of CSV. Without a time it is
+    /// `not specified`, and the second field is empty.
+    pub fn append_csv(&self, text: &mut Vec<u8>) -> Result<(), AllocError> {
+        if !self.append_meter(text)? {
+            text.extend_from_slice(b"not specified")?;
+        }
+        text.extend_from_slice(b",")?;
+        let Some(ahead) = self.ahead() else {
+            return Ok(());
+        };
+        if ahead > 0 {
+            text.extend_from_slice(b"+")?;
+        }
+        append_decimal(text, ahead < 0, ahead.unsigned_abs(), 0)
+    }
+
     /// Appends the line that says by how many seconds the meter's clock is off.
     fn append_difference(&self, text: &mut Vec<u8>) -> Result<(), AllocError> {
         let Some(ahead) = self.ahead() else {
@@ -181,8 +206,8 @@ impl Comparison {
         self.append_difference(text)
     }
 
-    /// Appends both times, and the difference, as fields of JSON.
-    fn append_fields(&self, text: &mut Vec<u8>) -> Result<(), AllocError> {
+    /// Appends both times, and the difference, as fields of JSON, after the brace that opens an object.
+    pub fn append_fields(&self, text: &mut Vec<u8>) -> Result<(), AllocError> {
         text.extend_from_slice(b"{\"meter\":\"")?;
         if self.append_meter(text)? {
             text.extend_from_slice(b"\"")?;

@@ -98,7 +98,7 @@ impl<H: Files<File = File> + AllocGlobal + RandomSource> Guards for PollGuards<'
 }
 
 /// How many seconds have passed; all of them if the clock fails.
-fn passed(seconds: io::Result<u64>) -> u32 {
+pub fn passed(seconds: io::Result<u64>) -> u32 {
     match seconds {
         Ok(seconds) => u32::try_from(seconds).unwrap_or(u32::MAX),
         Err(_) => u32::MAX,

@@ -1,7 +1,7 @@
 //! Rows of a profile: the requests for its columns and its buffer.
 
 use crate::requests::{MeterSession, is_answer, read_name};
-use dlms_buffer::{BufferFault, Column, by_range, column_of, first_of_last, from_entry};
+use dlms_buffer::{BufferFault, Column, by_entries, by_range, column_of, first_of_last};
 use dlms_call::{CallFault, Watch, get_part_watched, get_watched};
 use dlms_data::{Descriptor, LAST_SECOND, Selector, octets, secs};
 use dlms_ends::End;
@@ -14,18 +14,21 @@ use std::alloc::Global;
 use std::io::Write;
 
 /// The name of the load profile (IEC 62056-6-1).
-const LOAD_PROFILE: &str = "1.0.99.1.0.255";
+pub const LOAD_PROFILE: &str = "1.0.99.1.0.255";
 
 /// The class Profile generic, and its attributes (IEC 62056-6-2, Blue Book 4.3.6).
-const PROFILE: u16 = 7;
+pub const PROFILE: u16 = 7;
 
-const BUFFER: u8 = 2;
+pub const BUFFER: u8 = 2;
 
 const CAPTURE_OBJECTS: u8 = 3;
 
 const CAPTURE_PERIOD: u8 = 4;
 
 const ENTRIES_IN_USE: u8 = 7;
+
+/// The last entry of a buffer, as a selector names it.
+const LAST_ENTRY: u32 = 0;
 
 /// The first octet of a deviation that is left open.
 const OPEN_DEVIATION: u8 = 0x80;
@@ -239,7 +242,7 @@ impl<'a, S: End> MeterSession<'a, '_, S> {
     }
 
     /// The capture period in seconds; 0 if the meter does not say it.
-    fn period(&mut self, name: &'a str, code: [u8; 6]) -> Result<u32, Fault<'a>> {
+    pub fn period(&mut self, name: &'a str, code: [u8; 6]) -> Result<u32, Fault<'a>> {
         match self.number_of(name, code, CAPTURE_PERIOD) {
             Ok(period) => Ok(period),
             Err(fault) => {
@@ -269,7 +272,7 @@ impl<'a, S: End> MeterSession<'a, '_, S> {
         match request.last {
             Some(count) => {
                 let in_use = self.number_of(request.name, code, ENTRIES_IN_USE)?;
-                Ok(Some(from_entry(self.alloc, first_of_last(in_use, count))?))
+                Ok(Some(by_entries(self.alloc, first_of_last(in_use, count), LAST_ENTRY)?))
             }
             None => Ok(None),
         }

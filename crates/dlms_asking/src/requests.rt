@@ -386,7 +386,7 @@ pub fn clock_in(bytes: &[u8]) -> Option<[u8; 12]> {
 }
 
 /// Twelve octets.
-fn twelve(bytes: &[u8]) -> Option<[u8; 12]> {
+pub fn twelve(bytes: &[u8]) -> Option<[u8; 12]> {
     let mut octets = [0; 12];
     if bytes.len() != 12 {
         return None;

@@ -1,8 +1,7 @@
 //! The meters that push at a TCP port, each on a connection of its own, or at a UDP port.
 
 use crate::Fault;
-use crate::hearing::{Hearing, boxed_listener};
-use dlms_listen::Listener;
+use crate::hearing::{Ear, Hearing};
 use dlms_pushes::{Arrival, DatagramPort, PIECE, PushPort};
 use std::fs::{File, Files};
 use std::io;
@@ -13,7 +12,7 @@ use std::net::{Net, SocketAddr};
 #[derive(Drop)]
 struct Caller {
     name: String,
-    listener: Box<Listener>,
+    ear: Ear,
 }
 
 /// Gives a caller its place among the others.
@@ -51,8 +50,8 @@ fn hear_from<'f, H: Net + Files<File = File> + AllocGlobal, W: Write, E: Write>(
     caller: &mut Caller,
     octets: &[u8],
 ) -> Result<(), Fault<'f>> {
-    let Caller { name, listener } = caller;
-    hearing.hear(place, name.as_str(), listener, octets)
+    let Caller { name, ear } = caller;
+    hearing.hear(place, name.as_str(), ear, octets)
 }
 
 /// The connection of a caller is over, if there is one.
@@ -70,8 +69,8 @@ fn close_call<H: Net + Files<File = File> + AllocGlobal, W: Write, E: Write>(
     hearing: &mut Hearing<'_, '_, '_, H, W, E>,
     caller: &mut Caller,
 ) {
-    let Caller { name, listener } = caller;
-    hearing.close(name.as_str(), listener);
+    let Caller { name, ear } = caller;
+    hearing.close(name.as_str(), ear);
 }
 
 /// Takes what happened at a port.
@@ -87,7 +86,7 @@ fn hear_arrival<'f, H: Net + Files<File = File> + AllocGlobal, W: Write, E: Writ
         Arrival::Opened(at, address) => {
             let caller = Caller {
                 name: format!(in alloc; "{address}")?,
-                listener: boxed_listener(alloc, None)?,
+                ear: Ear::new(alloc, None)?,
             };
             keep_caller(callers, at, caller)
         }
@@ -159,7 +158,7 @@ fn announce_address<'f, H: Net + Files<File = File> + AllocGlobal, W: Write, E: 
     }
 }
 
-/// Hears a datagram, which is a stream of its own: a message of the wrapper, or frames.
+/// Hears a datagram, which is a stream of its own: a message of the wrapper, frames, or telegrams.
 fn hear_datagram<'f, H: Net + Files<File = File> + AllocGlobal, W: Write, E: Write>(
     hearing: &mut Hearing<'f, '_, '_, H, W, E>,
     place: &'f str,
@@ -168,9 +167,9 @@ fn hear_datagram<'f, H: Net + Files<File = File> + AllocGlobal, W: Write, E: Wri
 ) -> Result<(), Fault<'f>> {
     let alloc = hearing.alloc;
     let name = format!(in alloc; "{from}")?;
-    let mut listener = boxed_listener(alloc, None)?;
-    hearing.hear(place, name.as_str(), &mut listener, octets)?;
-    hearing.close(name.as_str(), &mut listener);
+    let mut ear = Ear::new(alloc, None)?;
+    hearing.hear(place, name.as_str(), &mut ear, octets)?;
+    hearing.close(name.as_str(), &mut ear);
     Ok(())
 }
 

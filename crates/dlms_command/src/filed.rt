@@ -8,6 +8,7 @@ use dlms_data::secs;
 use dlms_filing::FilePlace;
 use dlms_headend::Row;
 use dlms_lines::FieldFault;
+use dlms_listen::Content;
 use dlms_polling::{file_readings, hold_file, judge, open_readings};
 use dlms_printing::Notified;
 use dlms_values::{UnsignedKind, Value};
@@ -23,10 +24,35 @@ const REGISTERS: [[u8; 6]; 3] = [
     [1, 0, 3, 8, 0, 255],
 ];
 
+/// The unit of active energy, Wh, and that of reactive energy, varh (IEC 62056-6-2).
+const ENERGIES: [u8; 2] = [30, 32];
+
+/// The power of ten that a telegram's kWh is of Wh.
+const KILO: i8 = 3;
+
+/// A number of a telegram in Wh or varh, if it is a whole one that fits.
+fn energy_of(number: u64, scale: (i8, u8)) -> Option<u32> {
+    let (scaler, unit) = scale;
+    if unit != ENERGIES[0] && unit != ENERGIES[1] {
+        return None;
+    }
+    let factor = match scaler {
+        0 => 1,
+        1 => 10,
+        2 => 100,
+        KILO => 1000,
+        _ => return None,
+    };
+    u32::try_from(number.checked_mul(factor)?).ok()
+}
+
 /// The number of the register of this name.
 fn register_of(notified: &Notified<'_>, name: [u8; 6]) -> Option<u32> {
-    match notified.named(name)?.value {
-        Value::Unsigned(UnsignedKind::DoubleLongUnsigned, number) => u32::try_from(number).ok(),
+    let entry = notified.named(name)?;
+    match (entry.value, notified.received.content) {
+        (Value::Unsigned(_, number), Content::Telegram(_)) => energy_of(number, entry.scale?),
+        (Value::Unsigned(UnsignedKind::DoubleLongUnsigned, number), Content::Notification(_)) =>
+            u32::try_from(number).ok(),
         _ => None,
     }
 }
@@ -87,8 +113,8 @@ fn fault_in<'a>(alloc: Global, folder: &'a str, fault: FieldFault<'_>) -> Fault<
     }
 }
 
-/// Files the row of a notification in a file of its sender, by the rules of a poll: one that is not later than the row before it is left
-/// out, and reported. A notification without a clock and the three registers has no row.
+/// Files the row of a notification or a telegram in a file of its sender, by the rules of a poll: one that is not later than the row
+/// before it is left out, and reported. What has no clock or not the three registers has no row.
 #[inline(never)]
 pub fn file_row<'a, H: Net + Files<File = File> + AllocGlobal, E: Write>(
     host: &H,

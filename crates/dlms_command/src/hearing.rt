@@ -1,17 +1,24 @@
-//! The notifications in the octets of a line: taken, refused or skipped, printed and counted.
+//! The notifications and telegrams in the octets of a line: taken, refused or skipped, printed and counted.
 
 use crate::Fault;
 use crate::filed::file_row;
 use crate::skipped::{refusal_words, skip_words};
 use arrayvec::ArrayVec;
-use dlms_listen::{Carrier, Listener, Received, Receiver, Refusal, entries_of};
+use dlms_listen::{
+    Carrier, Content, Entry, Listener, Received, Receiver, Refusal, entries_of, octets_of,
+    telegram_entries,
+};
 use dlms_printing::{Notified, Teller};
 use dlms_security::MOST_APDU;
+use dlms_telegram::MOST_TELEGRAM;
 use dlms_words::OutputFormat;
 use std::alloc::{AllocError, Global};
 use std::fs::{File, Files};
 use std::io::Write;
 use std::net::Net;
+
+/// The first octet of a telegram in clear.
+const SLASH: u8 = b'/';
 
 /// What notifications are printed as.
 #[derive(Drop)]
@@ -90,7 +97,7 @@ impl<'a, H: Net + Files<File = File> + AllocGlobal, W: Write, E: Write> Hearing<
             if !self.is_quiet {
                 let _said = writeln!(
                     self.errors,
-                    "skipped {from}: {noise} octets in no frame, or in a damaged one"
+                    "skipped {from}: {noise} octets in no frame or telegram, or in a damaged one"
                 );
             }
         }
@@ -103,18 +110,38 @@ impl<'a, H: Net + Files<File = File> + AllocGlobal, W: Write, E: Write> Hearing<
         }
     }
 
-    /// Prints a notification.
+    /// Prints a notification or a telegram.
     fn print(
         &mut self,
         place: &'a str,
         from: &str,
         received: Received<'_>,
     ) -> Result<(), Fault<'a>> {
-        let entries = entries_of(self.alloc, received.notification.value)?;
+        match received.content {
+            Content::Notification(notification) => {
+                let entries = entries_of(self.alloc, notification.value)?;
+                self.print_entries(place, from, received, entries.as_slice())
+            }
+            Content::Telegram(telegram) => {
+                let octets = octets_of(self.alloc, &telegram)?;
+                let entries = telegram_entries(self.alloc, &telegram, octets.as_slice())?;
+                self.print_entries(place, from, received, entries.as_slice())
+            }
+        }
+    }
+
+    /// Prints the values of a notification or a telegram.
+    fn print_entries(
+        &mut self,
+        place: &'a str,
+        from: &str,
+        received: Received<'_>,
+        entries: &[Entry<'_>],
+    ) -> Result<(), Fault<'a>> {
         let notified = Notified {
             from,
             received,
-            entries: entries.as_slice(),
+            entries,
         };
         let mut teller = Teller::new(self.alloc, place, self.output);
         let told = if !self.printing.names.is_empty() {
@@ -135,20 +162,49 @@ impl<'a, H: Net + Files<File = File> + AllocGlobal, W: Write, E: Write> Hearing<
         }
     }
 
+    /// Counts a notification, and prints it.
+    fn count(
+        &mut self,
+        place: &'a str,
+        from: &str,
+        received: Received<'_>,
+    ) -> Result<(), Fault<'a>> {
+        self.print(place, from, received)?;
+        self.tally.received = self.tally.received.saturating_add(1);
+        if let Some(left) = self.tally.left {
+            self.tally.left = Some(left.saturating_sub(1));
+        }
+        Ok(())
+    }
+
     /// Takes an APDU.
     fn take(&mut self, place: &'a str, from: &str, apdu: &[u8]) -> Result<(), Fault<'a>> {
         let mut plain: ArrayVec<u8, MOST_APDU> = ArrayVec::new();
         match self.receiver.receive(apdu, &mut plain) {
-            Ok(received) => {
-                self.print(place, from, received)?;
-                self.tally.received = self.tally.received.saturating_add(1);
-                if let Some(left) = self.tally.left {
-                    self.tally.left = Some(left.saturating_sub(1));
-                }
+            Ok(received) => self.count(place, from, received),
+            Err(refusal) => {
+                self.tell_refusal(from, refusal);
+                Ok(())
             }
-            Err(refusal) => self.tell_refusal(from, refusal),
         }
-        Ok(())
+    }
+
+    /// Takes a telegram.
+    #[inline(never)]
+    fn take_telegram(
+        &mut self,
+        place: &'a str,
+        from: &str,
+        octets: &[u8],
+    ) -> Result<(), Fault<'a>> {
+        let mut plain: ArrayVec<u8, MOST_TELEGRAM> = ArrayVec::new();
+        match self.receiver.receive_telegram(octets, &mut plain) {
+            Ok(received) => self.count(place, from, received),
+            Err(refusal) => {
+                self.tell_refusal(from, refusal);
+                Ok(())
+            }
+        }
     }
 
     /// Whether further notifications are wanted.
@@ -161,26 +217,70 @@ impl<'a, H: Net + Files<File = File> + AllocGlobal, W: Write, E: Write> Hearing<
         &mut self,
         place: &'a str,
         from: &str,
-        listener: &mut Listener,
+        ear: &mut Ear,
         octets: &[u8],
     ) -> Result<(), Fault<'a>> {
-        let mut rest = octets;
-        for _ in 0..octets.len() {
-            if rest.is_empty() || !self.goes_on() {
-                return Ok(());
-            }
-            let count = listener.feed(rest);
-            self.tell_skipped(from, listener);
-            if let Some(apdu) = listener.apdu() {
-                self.take(place, from, apdu)?;
-            }
-            rest = rest.get(count..).unwrap_or(&[]);
+        let has_any = self.hear_with(place, from, &mut ear.listener, octets)?;
+        if has_any || ear.listener.carrier() != Some(Carrier::Hdlc) {
+            ear.is_decided = true;
+            ear.texts = None;
+        }
+        if ear.is_decided {
+            return Ok(());
+        }
+        if ear.texts.is_none() {
+            ear.texts = Some(boxed_listener(self.alloc, Some(Carrier::Telegrams))?);
+        }
+        let Some(texts) = &mut ear.texts else {
+            return Ok(());
+        };
+        let Some(count) = find_telegram(texts, &mut ear.has_sealed, octets) else {
+            return Ok(());
+        };
+        ear.is_decided = true;
+        self.tell_skipped(from, texts);
+        if let Some(telegram) = texts.telegram() {
+            self.take_telegram(place, from, telegram)?;
+        }
+        let rest = octets.get(count..).unwrap_or(&[]);
+        self.hear_with(place, from, texts, rest)?;
+        if let Some(texts) = ear.texts.take() {
+            ear.listener = texts;
         }
         Ok(())
     }
 
+    /// Hears octets of a line of a known carrier. Returns whether a frame or a message was among them.
+    fn hear_with(
+        &mut self,
+        place: &'a str,
+        from: &str,
+        listener: &mut Listener,
+        octets: &[u8],
+    ) -> Result<bool, Fault<'a>> {
+        let mut rest = octets;
+        let mut has_any = false;
+        for _ in 0..octets.len() {
+            if rest.is_empty() || !self.goes_on() {
+                return Ok(has_any);
+            }
+            let count = listener.feed(rest);
+            self.tell_skipped(from, listener);
+            has_any = has_any || listener.skipped().is_some();
+            if let Some(apdu) = listener.apdu() {
+                has_any = true;
+                self.take(place, from, apdu)?;
+            } else if let Some(octets) = listener.telegram() {
+                self.take_telegram(place, from, octets)?;
+            }
+            rest = rest.get(count..).unwrap_or(&[]);
+        }
+        Ok(has_any)
+    }
+
     /// A line is at its end.
-    pub fn close(&mut self, from: &str, listener: &mut Listener) {
+    pub fn close(&mut self, from: &str, ear: &mut Ear) {
+        let listener = &mut ear.listener;
         listener.close();
         self.tell_skipped(from, listener);
     }
@@ -204,11 +304,50 @@ impl<'a, H: Net + Files<File = File> + AllocGlobal, W: Write, E: Write> Hearing<
     }
 }
 
+/// What hears a line. One that may begin within a frame or a telegram is heard as both, until the first of either is whole.
+#[derive(Drop)]
+pub struct Ear {
+    listener: Box<Listener>,
+    texts: Option<Box<Listener>>,
+    is_decided: bool,
+    /// Whether the octets of a ciphered telegram came. They may also have been in a frame, whose end follows them.
+    has_sealed: bool,
+}
+
+impl Ear {
+    /// At the beginning of a stream.
+    pub fn new(alloc: Global, carrier: Option<Carrier>) -> Result<Self, AllocError> {
+        Ok(Ear {
+            listener: boxed_listener(alloc, carrier)?,
+            texts: None,
+            is_decided: false,
+            has_sealed: false,
+        })
+    }
+}
+
 /// A listener at the beginning of a stream, which is too large for the frames of the functions that keep it.
 #[inline(never)]
-pub fn boxed_listener(
-    alloc: Global,
-    carrier: Option<Carrier>,
-) -> Result<Box<Listener>, AllocError> {
+fn boxed_listener(alloc: Global, carrier: Option<Carrier>) -> Result<Box<Listener>, AllocError> {
     Ok(Box::new(alloc, Listener::new(carrier))?)
+}
+
+/// Looks for telegrams in octets in which no frame is whole: for one in clear, or for a second one that is ciphered. Returns the number
+/// of octets up to its end.
+fn find_telegram(listener: &mut Listener, has_sealed: &mut bool, octets: &[u8]) -> Option<usize> {
+    let mut rest = octets;
+    for _ in 0..octets.len() {
+        let count = listener.feed(rest);
+        rest = rest.get(count..).unwrap_or(&[]);
+        match listener.telegram() {
+            Some([SLASH, ..]) => return Some(octets.len().saturating_sub(rest.len())),
+            Some(_) if *has_sealed => return Some(octets.len().saturating_sub(rest.len())),
+            Some(_) => *has_sealed = true,
+            None => {}
+        }
+        if rest.is_empty() {
+            return None;
+        }
+    }
+    None
 }

@@ -42,7 +42,9 @@ mod meters;
 mod named;
 mod occupant;
 mod outcome;
+mod parts;
 mod polled;
+mod report;
 mod skipped;
 mod streams;
 mod watched;
@@ -470,7 +472,10 @@ fn run_job<
         }
         Job::Explain(options) => run_explain(host, &options, input, output, errors, terminals),
         Job::Get(options) => unread(ask_to_get(host, &options, output, errors), input),
-        Job::List(options) => unread(ask_to_list(host, &options, output, errors), input),
+        Job::List(options) => {
+            let showing = showing_for(terminals, options.quiet);
+            unread(ask_to_list(host, &options, showing, output, errors), input)
+        }
         Job::Profile(options) => {
             let showing = showing_for(terminals, options.quiet);
             unread(

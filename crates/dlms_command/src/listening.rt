@@ -1,7 +1,7 @@
-//! What meters send by themselves: notifications, from a serial line, a port or the input.
+//! What meters send by themselves: notifications and telegrams, from a serial line, a port or the input.
 
 use crate::callers::{listen_for_datagrams, listen_on};
-use crate::hearing::{Hearing, Printing, Tally, boxed_listener};
+use crate::hearing::{Ear, Hearing, Printing, Tally};
 use crate::{Fault, LISTEN};
 use dlms_asking::stations_of;
 use dlms_keys::Stations;
@@ -52,7 +52,7 @@ fn hear_reader<'f, H: Net + Files<File = File> + AllocGlobal, R: Read, W: Write,
     reader: &mut R,
 ) -> Result<(), Fault<'f>> {
     let alloc = hearing.alloc;
-    let mut listener = boxed_listener(alloc, carrier)?;
+    let mut ear = Ear::new(alloc, carrier)?;
     let mut piece = [0u8; PIECE];
     for _ in 0..u64::MAX {
         if !hearing.goes_on() {
@@ -62,18 +62,18 @@ fn hear_reader<'f, H: Net + Files<File = File> + AllocGlobal, R: Read, W: Write,
             Ok(0) => break,
             Ok(count) => {
                 let octets = piece.get(..count).unwrap_or(&[]);
-                hearing.hear(place, place, &mut listener, octets)?;
+                hearing.hear(place, place, &mut ear, octets)?;
             }
             Err(error) => match error.kind() {
                 ErrorKind::TimedOut | ErrorKind::Interrupted | ErrorKind::WouldBlock => {}
                 _ => {
-                    hearing.close(place, &mut listener);
+                    hearing.close(place, &mut ear);
                     return Err(Fault::of_system(alloc, place, &error));
                 }
             },
         }
     }
-    hearing.close(place, &mut listener);
+    hearing.close(place, &mut ear);
     Ok(())
 }
 
@@ -83,7 +83,7 @@ fn announce<W: Write>(output: &mut W, place: &str) -> io::Result<()> {
     output.flush()
 }
 
-/// Hears a serial line.
+/// Hears a serial line, which may begin within a frame or a telegram.
 fn hear_line<'f, H: Net + Files<File = File> + AllocGlobal, W: Write, E: Write>(
     host: &H,
     hearing: &mut Hearing<'f, '_, '_, H, W, E>,

@@ -1,6 +1,7 @@
 //! What only looks: at frames, at a meter's file, at a curve of readings.
 
 use crate::outcome::showing_for;
+use crate::report::run_report;
 use crate::{Fault, Terminals, buffer_input, buffer_output, result_with_flush};
 use dlms_asking::{LAST_OF_DAY, MIDNIGHT, second_in, stations_of};
 use dlms_data::LAST_SECOND;
@@ -18,7 +19,7 @@ use std::time::Clock;
 use std::{fs, io};
 
 /// The name of the input in messages, and the file name that means the input.
-const INPUT: &str = "standard input";
+pub const INPUT: &str = "standard input";
 
 const INPUT_NAME: &str = "-";
 
@@ -26,7 +27,7 @@ const INPUT_NAME: &str = "-";
 const LEAST_SHOWN: u64 = 1_048_576;
 
 /// The file's name, unless it is the one that means standard input.
-fn named_file(file: Option<&str>) -> Option<&str> {
+pub fn named_file(file: Option<&str>) -> Option<&str> {
     file.filter(|name| *name != INPUT_NAME)
 }
 
@@ -59,7 +60,7 @@ fn looking_by(options: &ExplainOptions<'_>, terminals: Terminals) -> Looking {
     }
 }
 
-/// Explains the frames in a file, or on the input if no file is given.
+/// Explains the frames in a file, or on the input if no file is given; or makes a report of it.
 #[inline(never)]
 pub fn run_explain<
     'a,
@@ -75,6 +76,9 @@ pub fn run_explain<
     errors: &mut E,
     terminals: Terminals,
 ) -> Result<(), Fault<'a>> {
+    if let Some(report) = options.html {
+        return run_report(host, options, report, input, errors);
+    }
     let looking = looking_by(options, terminals);
     let file = options.file;
     let Some(keys) = options.keys else {

@@ -1,6 +1,7 @@
 //! Many meters, by a list.
 
 use crate::Fault;
+use dlms_asking::Comparison;
 use dlms_collecting::{
     CollectFault, Collection, Defaults, FailedMeter, FaultText, ListFault, MeterFailure,
     MeterValue, Purpose, Refusal, RowFormat, ValueText, collect,
@@ -19,11 +20,16 @@ use std::time::Clock;
 /// The most attributes that are requested of a meter.
 const MOST_NAMES: usize = 16;
 
-/// The messages of `poll` and `get`, and values, as text or as JSON.
+/// The attribute that is requested of each meter if clocks are compared.
+const CLOCK_NAME: &str = "clock";
+
+/// The messages of `poll` and `get`, and values or clocks, as text or as JSON.
 #[derive(Drop)]
 struct MeterTexts {
     alloc: Global,
     format: OutputFormat,
+    /// Whether a value is a clock, which is compared with the system's.
+    compares: bool,
 }
 
 /// Appends a message after a meter's name, its lines joined to one.
@@ -139,8 +145,35 @@ impl MeterTexts {
     }
 }
 
+/// Appends the line of a meter's clock, compared with the system's.
+fn append_comparison(
+    alloc: Global,
+    text: &mut Vec<u8>,
+    format: OutputFormat,
+    value: &MeterValue<'_>,
+) -> Result<(), AllocError> {
+    let found = Comparison::of(value.value, value.second);
+    if format == OutputFormat::Text {
+        text.extend_from_slice(value.meter.as_bytes())?;
+        text.extend_from_slice(b",")?;
+        found.append_csv(text)?;
+        return text.extend_from_slice(b"\n");
+    }
+    let mut fields = Vec::new(alloc);
+    found.append_fields(&mut fields)?;
+    text.extend_from_slice(b"{\"name\":\"")?;
+    text.extend_from_slice(value.meter.as_bytes())?;
+    text.extend_from_slice(b"\",")?;
+    text.extend_from_slice(without_brace(fields.as_slice()))?;
+    text.extend_from_slice(b",\"done\":\"nothing\"}\n")
+}
+
 impl ValueText for MeterTexts {
     fn append_value(&self, text: &mut Vec<u8>, value: &MeterValue<'_>) -> Result<bool, AllocError> {
+        if self.compares {
+            append_comparison(self.alloc, text, self.format, value)?;
+            return Ok(true);
+        }
         let Some(told) = self.told(value)? else {
             return Ok(false);
         };
@@ -197,6 +230,14 @@ fn names_of<'a>(alloc: Global, text: Option<&'a str>) -> Result<Vec<Name>, Fault
     Ok(names)
 }
 
+/// The names of the attributes that are requested, if meters are not polled.
+fn wanted_names<'a>(options: &CollectOptions<'a>) -> Option<&'a str> {
+    if options.clock {
+        return Some(CLOCK_NAME);
+    }
+    options.get
+}
+
 /// Polls the meters of a list, whose text this is, or requests these attributes of them.
 fn collect_text<
     'a,
@@ -214,7 +255,7 @@ fn collect_text<
 ) -> Result<(), Fault<'a>> {
     let collection = Collection {
         list: text,
-        purpose: match options.get {
+        purpose: match wanted_names(options) {
             Some(written) => Purpose::Get(written, names),
             None => Purpose::Poll(options.readings.unwrap_or("")),
         },
@@ -233,6 +274,7 @@ fn collect_text<
     let texts = MeterTexts {
         alloc: host.alloc(),
         format: options.format,
+        compares: options.clock,
     };
     match collect(host, &collection, &texts, output, errors, is_terminal) {
         Ok(tally) if tally.is_done() => Ok(()),
@@ -255,7 +297,7 @@ pub fn run_collect<
     output: &mut W,
     errors: &mut E,
 ) -> Result<(), Fault<'a>> {
-    let names = names_of(host.alloc(), options.get)?;
+    let names = names_of(host.alloc(), wanted_names(options))?;
     match fs::read_to_string(host, options.list) {
         Ok(text) => {
             let told = collect_text(

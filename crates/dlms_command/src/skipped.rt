@@ -38,6 +38,8 @@ pub fn skip_words(skip: Skip) -> &'static str {
         Skip::Torn => "segments without a beginning or an end",
         Skip::TornBlocks => "blocks without a beginning or an end",
         Skip::Long => "an APDU that is too long",
+        Skip::WrongCheck => "a telegram with a wrong check",
+        Skip::LongTelegram => "a telegram that is too long",
         Skip::Header(_) => "the rest of a stream, whose header is not one of the wrapper",
     }
 }

@@ -50,6 +50,10 @@ pub enum Fault<'a> {
     Columns(&'a str, ColumnList),
     /// In this file the line of this number is not a line of readings.
     Readings(&'a str, usize),
+    /// This page for a report cannot be read, for which the system has these words.
+    NoPage(&'a str, String),
+    /// This is not the page for reports: it has no place for a log, or several.
+    Page(&'a str),
     /// This file has no row of the chosen time.
     NoRows(&'a str),
     /// This is no register of a readings file.
@@ -118,6 +122,10 @@ pub enum Fault<'a> {
     Failed(usize),
     /// The profile of this name has no clock among its columns.
     NoClock(&'a str),
+    /// The meter at this place does not capture rows by time.
+    NoPeriod(&'a str),
+    /// A poll in parts has no file to go on from.
+    Unfiled,
     /// The columns or the rows of the profile of this name cannot be read.
     Buffer(&'a str, BufferFault),
 }
@@ -134,6 +142,14 @@ impl<'a> Fault<'a> {
         match format!(in alloc; "{error}") {
             Ok(words) => Fault::System(place, words),
             Err(_) => Fault::MEMORY,
+        }
+    }
+
+    /// The fault of the page for a report, for which a call of the system failed.
+    pub fn of_page(alloc: Global, page: &'a str, error: &io::Error) -> Fault<'a> {
+        match Fault::of_system(alloc, page, error) {
+            Fault::System(page, words) => Fault::NoPage(page, words),
+            fault => fault,
         }
     }
 
@@ -292,6 +308,8 @@ impl<'a> Fault<'a> {
             | Fault::Call(place, _)
             | Fault::Large(place, _)
             | Fault::File(place)
+            | Fault::NoPage(place, _)
+            | Fault::Page(place)
             | Fault::NoRows(place)
             | Fault::Register(place)
             | Fault::Action(place)
@@ -303,6 +321,7 @@ impl<'a> Fault<'a> {
             | Fault::Time(place)
             | Fault::List(place, _, _)
             | Fault::NoClock(place)
+            | Fault::NoPeriod(place)
             | Fault::Buffer(place, _) => Some(*place),
             _ => None,
         }
@@ -711,6 +730,17 @@ impl fmt::Display for Fault<'_> {
                 )
             }
             Fault::File(file) => write!(f, "long\n  {file}: more than 65536 bytes"),
+            Fault::NoPage(page, words) => {
+                let words = without_number(words.as_str());
+                write!(
+                    f,
+                    "io\n  {page}: {words}\n  .ci/web build makes the page, and --page names it"
+                )
+            }
+            Fault::Page(page) => write!(
+                f,
+                "page\n  {page}: it has no place for a log, or several\n  .ci/web build makes a page that has one"
+            ),
             Fault::NoRows(file) => {
                 write!(
                     f,
@@ -737,6 +767,13 @@ impl fmt::Display for Fault<'_> {
             Fault::NoClock(name) => write!(
                 f,
                 "protocol\n  {name}: the profile has no clock among its columns, so it cannot be asked for by time"
+            ),
+            Fault::NoPeriod(place) => write!(
+                f,
+                "protocol\n  {place}: its load profile has no capture period, so its rows cannot be asked for in parts"
+            ),
+            Fault::Unfiled => f.write_str(
+                "rows\n  --rows-per-request: a file is needed, by --readings: the next part goes on from its last row",
             ),
             Fault::Buffer(name, fault) => write!(f, "protocol\n  {name}: {fault}"),
             Fault::Action(text) => write!(f, "keys\n  {text}: new or check is expected"),

@@ -1,4 +1,4 @@
-//! Notifications, as text, as objects of JSON, or as rows of CSV.
+//! Notifications and telegrams, as text, as objects of JSON, or as rows of CSV.
 
 use crate::attributes_json::append_shown;
 use crate::json_text::append_member;
@@ -8,7 +8,7 @@ use crate::values::{Teller, append_code, append_labelled};
 use dlms_buffer::{Cell, append_cell, append_clock};
 use dlms_data::Descriptor;
 use dlms_faults::Fault;
-use dlms_listen::{Entry, Notification, Received, Seal};
+use dlms_listen::{Content, Entry, Notification, Received, Seal};
 use dlms_names::unit_name;
 use dlms_text::{append_decimal, append_pairs, append_quoted};
 use dlms_values::{OctetsKind, Value};
@@ -18,7 +18,7 @@ use std::io::Write;
 /// The logical name of the clock (IEC 62056-6-1).
 const CLOCK: [u8; 6] = [0, 0, 1, 0, 0, 255];
 
-/// A notification, where it came from, and the values in it.
+/// A notification or a telegram, where it came from, and the values in it.
 #[derive(Clone, Copy)]
 pub struct Notified<'n> {
     pub from: &'n str,
@@ -82,25 +82,49 @@ fn append_moment_of(text: &mut Vec<u8>, time: Option<[u8; 12]>) -> Result<(), Al
     }
 }
 
+/// What was received, as the first words of its line.
+fn kind_of(content: &Content<'_>) -> &'static [u8] {
+    match content {
+        Content::Notification(
+            Notification {
+                attribute: Some(_),
+                ..
+            },
+        ) => b"event from ",
+        Content::Notification(_) => b"notification from ",
+        Content::Telegram(_) => b"telegram from ",
+    }
+}
+
+/// When a notification was made, if it says so; the clock of a telegram is among its values.
+fn time_of(notified: &Notified<'_>) -> Option<[u8; 12]> {
+    match notified.received.content {
+        Content::Notification(notification) => notification.time,
+        Content::Telegram(_) => notified.time(),
+    }
+}
+
 /// Appends the line of a notification.
 fn append_head(text: &mut Vec<u8>, notified: &Notified<'_>) -> Result<(), AllocError> {
-    let notification = notified.received.notification;
-    text.extend_from_slice(if notification.attribute.is_some() {
-        b"event from "
-    } else {
-        b"notification from "
-    })?;
+    text.extend_from_slice(kind_of(&notified.received.content))?;
     text.extend_from_slice(notified.from.as_bytes())?;
-    append_moment_of(text, notification.time)?;
+    append_moment_of(text, time_of(notified))?;
     if let Some(seal) = notified.received.seal {
         append_seal(text, seal)?;
     }
+    append_identification(text, &notified.received.content)?;
     text.extend_from_slice(b"\n")
 }
 
 /// Appends the attribute of an event as a line.
-fn append_attribute(text: &mut Vec<u8>, notification: &Notification<'_>) -> Result<(), AllocError> {
-    let Some(attribute) = notification.attribute else {
+fn append_attribute(text: &mut Vec<u8>, content: &Content<'_>) -> Result<(), AllocError> {
+    let Content::Notification(
+        Notification {
+            attribute: Some(attribute),
+            ..
+        },
+    ) = content
+    else {
         return Ok(());
     };
     append_labelled(text, b"  class ", u64::from(attribute.class))?;
@@ -144,20 +168,59 @@ fn append_event(text: &mut Vec<u8>, attribute: Descriptor) -> Result<(), AllocEr
     text.extend_from_slice(b"}")
 }
 
+/// Appends the identification of a telegram, and whether it has no check.
+fn append_identification(text: &mut Vec<u8>, content: &Content<'_>) -> Result<(), AllocError> {
+    let Content::Telegram(telegram) = content else {
+        return Ok(());
+    };
+    text.extend_from_slice(b" identification ")?;
+    append_quoted(text, telegram.identification())?;
+    if telegram.is_checked {
+        return Ok(());
+    }
+    text.extend_from_slice(b" without a check")
+}
+
+/// Appends the member with the identification of a telegram, and whether it has a check.
+fn append_telegram(text: &mut Vec<u8>, content: &Content<'_>) -> Result<(), AllocError> {
+    let Content::Telegram(telegram) = content else {
+        return Ok(());
+    };
+    text.extend_from_slice(b",\"telegram\":{\"identification\":")?;
+    append_quoted(text, telegram.identification())?;
+    text.extend_from_slice(if telegram.is_checked {
+        b",\"checked\":true}"
+    } else {
+        b",\"checked\":false}"
+    })
+}
+
 /// Appends the members of a notification before its values.
 fn append_members(text: &mut Vec<u8>, notified: &Notified<'_>) -> Result<(), AllocError> {
-    let notification = notified.received.notification;
     append_member(text, b"{\"from\":", notified.from)?;
     if let Some(seal) = notified.received.seal {
         append_seal_members(text, seal)?;
     }
-    if let Some(invoke) = notification.invoke {
+    if let Content::Notification(
+        Notification {
+            invoke: Some(invoke),
+            ..
+        },
+    ) = notified.received.content
+    {
         append_labelled(text, b",\"invoke\":", u64::from(invoke))?;
     }
-    append_shown(text, b",\"time\":\"", notification.time)?;
-    if let Some(attribute) = notification.attribute {
+    append_shown(text, b",\"time\":\"", time_of(notified))?;
+    if let Content::Notification(
+        Notification {
+            attribute: Some(attribute),
+            ..
+        },
+    ) = notified.received.content
+    {
         append_event(text, attribute)?;
     }
+    append_telegram(text, &notified.received.content)?;
     text.extend_from_slice(b",\"values\":[")
 }
 
@@ -188,8 +251,14 @@ impl<'n> Notified<'n> {
 
     /// The date-time of the notification, or that of the clock among its values.
     pub fn time(&self) -> Option<[u8; 12]> {
-        if self.received.notification.time.is_some() {
-            return self.received.notification.time;
+        if let Content::Notification(
+            Notification {
+                time: Some(time),
+                ..
+            },
+        ) = self.received.content
+        {
+            return Some(time);
         }
         date_time_in(&self.named(CLOCK)?.value)
     }
@@ -199,7 +268,7 @@ impl<'a, W: Write> Teller<'a, '_, W> {
     /// Prints a notification in lines, of which the others are indented.
     pub fn put_notified(&mut self, notified: &Notified<'_>) -> Result<(), Fault<'a>> {
         append_head(&mut self.text, notified)?;
-        append_attribute(&mut self.text, &notified.received.notification)?;
+        append_attribute(&mut self.text, &notified.received.content)?;
         for entry in notified.entries {
             append_entry(&mut self.text, entry)?;
             self.flush_long()?;

@@ -2,6 +2,7 @@
 
 use dlms_text::append_number;
 use std::alloc::{AllocError, Global};
+use std::io;
 use std::io::Write;
 use std::time::{Clock, Duration, Instant};
 
@@ -258,6 +259,17 @@ impl<'e, H: Clock, E: Write> Progress<'e, H, E> {
             let _written = self.errors.write_all(text.as_slice());
         }
         self.width = 0;
+    }
+
+    /// Writes something else in place of the line that was drawn.
+    pub fn write_instead(&mut self, octets: &[u8]) -> io::Result<usize> {
+        self.clear();
+        self.errors.write(octets)
+    }
+
+    /// Passes on what was written.
+    pub fn flush(&mut self) -> io::Result<()> {
+        self.errors.flush()
     }
 
     /// Appends what clears the line that was drawn.

@@ -74,6 +74,8 @@ fn put_polls<W: Write>(page: &mut Page<'_, W>) -> Result<()> {
     page.put(Fault::Columns(ADDRESS, columns))?;
     page.put(Fault::Columns(ADDRESS, list_columns(&[])))?;
     page.put(Fault::Overdue(ADDRESS, 300))?;
+    page.put(Fault::NoPeriod(ADDRESS))?;
+    page.put(Fault::Unfiled)?;
     page.put(Fault::Clock(ADDRESS, ClockFault::Fallen(3)))?;
     let expected = Expected {
         name: [0, 0, 42, 0, 0, 255],
