@@ -71,12 +71,16 @@ class Browser:
         self.call("Page.navigate", url=url)
         self.run(WAIT)
 
+    def choose(self, selector, path):
+        """Chooses a file in an input of the page."""
+        root = self.call("DOM.getDocument")["root"]["nodeId"]
+        node = self.call("DOM.querySelector", nodeId=root, selector=selector)["nodeId"]
+        self.call("DOM.setFileInputFiles", files=[os.path.abspath(path)], nodeId=node)
+
     def open_file(self, path):
         """Opens a file in the page, and returns what the page says of its explanation."""
         self.run("delete document.documentElement.dataset.done; 0")
-        root = self.call("DOM.getDocument")["root"]["nodeId"]
-        node = self.call("DOM.querySelector", nodeId=root, selector="#file")["nodeId"]
-        self.call("DOM.setFileInputFiles", files=[os.path.abspath(path)], nodeId=node)
+        self.choose("#file", path)
         return self.done()
 
     def done(self):

@@ -4,6 +4,8 @@
 texts     the inputs of crates/dlms/cases and stdin, in every form, byte for byte what 'dlms explain' prints; 300 damaged ones too
 apdus     APDUs alone, as the lines below the same APDU in a log
 keys      ciphered messages, as 'explain --keys' with the same station
+stations  .. with the same file of several stations, chosen, opened or typed; refused files are named by line, and no key is shown
+reports   'explain --html': the log as 'explain --hex' prints it, its name, the same policy, nothing leaves; one of 5 MB
 curves    the SVG of readings, as 'dlms plot --svg'
 leaks     fetch, an image, a beacon, a WebSocket, a form, link prefetch and others, in the page and in its worker: the server hears nothing
 links     a link carries the text in its fragment, and the server sees none of it
@@ -19,6 +21,7 @@ import json
 import os
 import pathlib
 import random
+import re
 import subprocess
 import sys
 import tempfile
@@ -182,6 +185,115 @@ def keys(browser):
     check("16 hexadecimal" in browser.run("document.getElementById('status').textContent"), "keys of a wrong length are refused")
     give(browser, "", "", "")
     print(f"keys: {same} texts as the program's")
+
+
+STATIONS = [("4D4D4D0000000001", AUTHENTICATION, ENCRYPTION), (TITLE, ENCRYPTION, AUTHENTICATION), ("4D4D4D0000000002", AUTHENTICATION, "")]
+KEYED = "document.documentElement.dataset.keys"
+
+
+def station(title, encryption, authentication):
+    return f'[[station]] # a meter\r\n  title = "{title}"\n\nencryption-key=\'{encryption}\'\n' + (f'authentication-key = "{authentication}" # its tag\n' if authentication else "")
+
+
+def choose_keys(browser, selector, file):
+    """Chooses a file of keys, and returns what the page says of it."""
+    browser.run(f"delete {KEYED}; 0")
+    browser.choose(selector, file)
+    browser.run("new Promise(done => { const look = () => %s === undefined ? setTimeout(look, 5) : done(0); look(); })" % KEYED)
+    return browser.run("document.getElementById('refused').textContent")
+
+
+# What the page does not read of a file of keys: the text, and the line.
+REFUSED_KEYS = [
+    ("[[station]]\ntitle = \"4D4D4D0000000001\"\n", "line 1: this station has no encryption-key"),
+    ("# nothing\n", "line 1: there is no [[station]] table"),
+    ("title = \"4D4D4D0000000001\"\n", "line 1: a [[station]] table is expected before it"),
+    ("[[station]]\n\ntitle = \"4D4D\"\n", "line 3: title is expected as 16 hexadecimal digits"),
+    ("[[station]]\nencryption-key = \"D0D1D2D3D4D5D6D7D8D9DADBDCDDDED\"\n", "line 2: encryption-key is expected as 32 hexadecimal digits"),
+    ("[[station]]\ntitle = \"4D4D4D0000000001\"\ntitle = \"4D4D4D0000000001\"\n", "line 3: title is given twice"),
+    ("[[station]]\npolicy = \"encrypted\"\n", "line 2: title, encryption-key or authentication-key is expected"),
+    ("[[station]]\nD0D1D2D3D4D5D6D7D8D9DADBDCDDDEDF\n", "line 2: a [[station]] table, or a name and a text in quotes, is expected"),
+    ("[station]\n", "line 1: a [[station]] table, or a name and a text in quotes, is expected"),
+    ("#" * 65537, "It has more than 65536 bytes."),
+    ("".join(station(f"{n:016X}", ENCRYPTION, "") for n in range(257)), "There are more than 256 stations."),
+]
+
+
+def stations(browser):
+    same = 0
+    with tempfile.TemporaryDirectory() as folder:
+        log, file = pathlib.Path(folder, "log"), pathlib.Path(folder, "keys.toml")
+        log.write_text(CIPHERED)
+
+        def compare(how):
+            found = 0
+            for (flags, words), (code, text) in zip(FORMS.items(), answers(browser, [("log", flags, log.read_bytes()) for flags in FORMS])):
+                status, expected = native(["explain", "--keys", str(file), *words], str(log))
+                check((code, status, text) == (0, 0, expected), f"stations {how} {words}: code {code}, status {status}")
+                check(not any(it.lower().encode() in text.lower() for it in (ENCRYPTION, AUTHENTICATION)), f"stations {how}: a key is shown")
+                found += text == expected
+            return found
+
+        file.write_bytes("".join(station(*it) for it in STATIONS).encode())
+        file.chmod(0o600)
+        for selector in ("#keyfile", "#file"):
+            check(choose_keys(browser, selector, file) == "" and browser.run(KEYED) == "3", f"three stations by {selector}")
+            same += compare(selector)
+            browser.run("document.getElementById('forget').click(); 0")
+        for it in STATIONS:
+            give(browser, *it)
+            browser.run("document.getElementById('add').click(); 0")
+        shown = browser.run("document.getElementById('stations').textContent")
+        check(shown.startswith("3 stations: 4D4D4D0000000001, 4D4D4D0000BC614E"), f"the stations are {shown}")
+        same += compare("typed")
+        for text, why in REFUSED_KEYS:
+            file.write_bytes(text.encode())
+            refused = choose_keys(browser, "#keyfile", file)
+            check(refused == f"keys.toml: {why}", f"keys refused as {refused}, not {why}")
+            check(browser.run(KEYED) == "3", "a refused file changes the keys")
+            check(native(["explain", "--keys", str(file)], str(log))[0] == 1, f"the program takes keys that the page refuses: {why}")
+        check(not any(it in browser.run("document.body.innerText + document.body.innerHTML + location.href") for it in (ENCRYPTION, AUTHENTICATION)), "a key is in the page")
+        browser.run("document.getElementById('forget').click(); 0")
+        file.write_text("".join(station(f"{n:016X}", ENCRYPTION, "") for n in range(256)))
+        check(choose_keys(browser, "#keyfile", file) == "" and browser.run(KEYED) == "256", "256 stations")
+        same += compare("of 256")
+        give(browser, "4D4D4D0000BC614E", ENCRYPTION, AUTHENTICATION)
+        browser.run("document.getElementById('go').click(); 0")
+        check("more than 256" in browser.run("document.getElementById('status').textContent"), "257 stations are refused")
+        browser.run("document.getElementById('forget').click(); 0")
+        check(browser.run("document.getElementById('stations').textContent + document.getElementById('encryption').value") == "", "keys are left")
+    print(f"stations: {same} texts as the program's, {len(REFUSED_KEYS)} files refused")
+
+
+def reports(browser):
+    """Logs in copies of the page."""
+    cases = CRATES / "dlms/cases"
+    line = (cases / "explain-each-kind-of-frame.in").read_bytes()
+    logs = {"line.log": line, 'a "b" <i>ü.log': line[:4001], "tcp.pcap": (cases / "explain-a-capture-of-tcp.in").read_bytes(), "none.log": b"",
+            "large.log": line * (5_000_000 // len(line) + 1)}
+    with tempfile.TemporaryDirectory() as folder:
+        for name, octets in logs.items():
+            log, report = pathlib.Path(folder, name), pathlib.Path(folder, name + ".html")
+            log.write_bytes(octets)
+            made = subprocess.run([DLMS, "explain", str(log), "--page", str(PAGE), "--html", str(report)], capture_output=True, text=True)
+            check((made.returncode, made.stdout) == (0, "") and made.stderr == f"made {report}: {len(octets)} octets of {log}\n", f"{name}: {made}")
+            browser.events.clear()
+            browser.go(report.as_uri())
+            told = browser.done()
+            kept = "".join(it for it in name if it.isascii() and it.isalnum() or it in "._-")
+            check(browser.run("document.title").startswith(kept + ": ") and browser.run("document.getElementById('name').textContent").startswith(kept + ","), f"{name} is not named")
+            text = base64.b64decode(browser.run("shownText()"))
+            check((told["code"], text) == (0, native(["explain", "--hex"], str(log))[1]), f"{name}: code {told['code']}, {len(text)} octets of text")
+            asked = [it for it in browser.urls() if not it.startswith(("blob:", "data:", "about:", report.as_uri()))]
+            check(asked == [], f"{name}: the page asks for {asked}")
+            if name == "line.log":
+                server = Server()
+                told = browser.run(LEAKS % json.dumps(server.address + "leak-"))
+                check(server.asked == [] and not any("REACHED" in it or it == "1" for it in told.values()), f"a report leaks: {server.asked} {told}")
+                server.server.shutdown()
+        policies = {re.search(r'Security-Policy" content="([^"]*)"', it.read_text()).group(1) for it in (PAGE, *pathlib.Path(folder).glob("*.html"))}
+        check(len(policies) == 1, "a report has another policy")
+    print(f"reports: {len(logs)} logs, nothing asked for")
 
 
 def curves(browser):
@@ -415,9 +527,9 @@ def main():
         browser = Browser()
         browser.go(PAGE.as_uri())
         browser.run(BOTH)
-        for part in (texts, apdus, keys, curves):
+        for part in (texts, apdus, keys, stations, curves):
             part(browser)
-        for part in (leaks, links, filters, controls, pictures):
+        for part in (leaks, reports, links, filters, controls, pictures):
             part(browser)
         plain()
         large(browser, int(sys.argv[2]))
