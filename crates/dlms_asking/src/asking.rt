@@ -4,17 +4,16 @@ ghost use Rattle.dlms_client.specs.Plan.{IsPlan, plan_of};
 
 use crate::clock::{ClockRequest, clock_request};
 use crate::counter::last_counter;
-use crate::explained_stream::{ExplainedStream, Explanation};
 use crate::given::value_given;
+use crate::over_line::{ask_over, ask_with_octets, ask_with_progress, is_long};
 use crate::profile::{ProfileRequest, request_of};
 use crate::requests::{MeterSession, read_name};
 use crate::route::route_of;
 use crate::security::{heed_counter, keep_counter, parted, protection_for};
 use crate::setting::{Given, given_in};
-use crate::watched_line::{CountsOctets, OctetProgress, WatchedLine};
 use arrayvec::ArrayVec;
 use dlms_call::{CallFault, ClientEnd, begin};
-use dlms_client::{Plan, Route};
+use dlms_client::Plan;
 use dlms_data::Data;
 use dlms_ends::End;
 use dlms_faults::Fault;
@@ -23,17 +22,15 @@ use dlms_guards::Protection;
 use dlms_headend::PollFault;
 use dlms_lines::{Dialling, FieldFault, MeterLine};
 use dlms_polling::{HostPollInputs, PollInputs, secret_of};
-use dlms_printing::{Following, ListForm, Progress, Showing, Unfollowed, put_fault};
+use dlms_printing::{Following, ListForm, Showing, Unfollowed, put_fault};
 use dlms_secured::{Guard, SecuredFault};
 use dlms_words::{
     ActOptions, Asking, ClockOptions, GetOptions, ListOptions, MeterOptions, OutputFormat,
     ProfileOptions, SetOptions, ValueFormat,
 };
 use std::alloc::Global;
-use std::cell::RefCell;
 use std::fs::File;
-use std::io;
-use std::io::{Read, Write};
+use std::io::Write;
 use std::net::Net;
 use std::random::RandomSource;
 use std::rt::Files;
@@ -184,7 +181,7 @@ pub fn open_association<'a, S: End>(
 /// An association over a line, the request in it, and its end, also if the request failed. The request is taken once the association
 /// is open.
 #[inline(never)]
-fn exchange<'a, H: Clock + AllocGlobal, S: End, W: Write, P: Following>(
+pub fn exchange<'a, H: Clock + AllocGlobal, S: End, W: Write, P: Following>(
     host: &H,
     asking: &Asking<'a>,
     plan: Plan,
@@ -284,15 +281,6 @@ pub fn line_to<'a, 'r, H: Net + Files<File = File> + Clock + AllocGlobal>(
     }
 }
 
-/// What passes over a line of this route, if it is to be explained.
-fn explanation(is_verbose: bool, route: Route) -> Explanation {
-    match route {
-        _ if !is_verbose => Explanation::Nothing,
-        Route::Hdlc(..) => Explanation::Frames,
-        Route::Tcp(..) => Explanation::Messages,
-    }
-}
-
 /// How many frame counters are reserved for an association with this request: a step, with some for each name, and as many as the
 /// longest value may need messages.
 fn counters_for(asking: &Asking<'_>, request: &Request<'_>) -> u32 {
@@ -347,51 +335,6 @@ fn call_of<'a, H: Files<File = File> + Clock + AllocGlobal>(
     })
 }
 
-/// Whether the line failed in a talk.
-fn is_of_line(talked: &Result<(), Fault<'_>>) -> bool {
-    matches!(talked, Err(Fault::Call(_, CallFault::Io)))
-}
-
-/// The result of an exchange; if the line failed, with the system's message, if it has one.
-fn with_system_error<'a>(
-    alloc: Global,
-    place: &'a str,
-    talked: Result<(), Fault<'a>>,
-    failure: Option<io::Error>,
-) -> Result<(), Fault<'a>> {
-    match failure {
-        Some(error) if is_of_line(&talked) => {
-            drop(talked);
-            Err(Fault::of_system(alloc, place, &error))
-        }
-        _ => talked,
-    }
-}
-
-/// Drops a line, in a frame of its own: what explains its bytes is large, and would be on the stack during the whole session.
-#[inline(never)]
-fn close<S: Drop, E>(line: ExplainedStream<'_, S, E>) {
-    drop(line);
-}
-
-/// A line that keeps the system's error if it failed.
-trait Failing {
-    /// The error, if the line failed.
-    fn error(&self) -> Option<io::Error>;
-}
-
-impl<H: Net + Files<File = File> + Clock + AllocGlobal> Failing for MeterLine<'_, H> {
-    fn error(&self) -> Option<io::Error> {
-        self.failure()
-    }
-}
-
-impl<L: Failing, P> Failing for WatchedLine<'_, L, P> {
-    fn error(&self) -> Option<io::Error> {
-        self.line.error()
-    }
-}
-
 /// Whether a request prints values as JSON, and so reports the faults of single names as JSON.
 fn prints_json(waiting: &Option<Request<'_>>) -> bool {
     match waiting {
@@ -421,155 +364,6 @@ fn with_refused<'a, E: Write>(
         Some(fault) => Err(fault),
         None => Ok(()),
     }
-}
-
-/// Asks a meter over the line to it. What passes is explained on `explained` if that is asked for.
-fn ask_over<
-    'a,
-    H: Clock + AllocGlobal,
-    L: Read + Write + Failing + Drop,
-    W: Write,
-    X: Write,
-    P: Following,
->(
-    host: &H,
-    asking: &Asking<'a>,
-    plan: Plan,
-    protection: Option<Protection>,
-    line: L,
-    waiting: &mut Option<Request<'a>>,
-    output: &mut W,
-    explained: &mut X,
-    progress: &mut P,
-    refused: &mut Vec<Fault<'a>>,
-) -> Result<(), Fault<'a>> {
-    let alloc = host.alloc();
-    let explanation = explanation(asking.verbose, plan.route);
-    let mut line = match ExplainedStream::new(alloc, line, explanation, explained) {
-        Ok(line) => line,
-        Err(_) => {
-            drop(protection);
-            return Err(Fault::MEMORY);
-        }
-    };
-    let talked = exchange(
-        host, asking, plan, protection, &mut line, waiting, output, progress, refused,
-    );
-    let told = with_system_error(alloc, asking.meter.place, talked, line.stream.error());
-    close(line);
-    told
-}
-
-/// What is shown of the progress of a request.
-fn showing_of(waiting: &Option<Request<'_>>) -> Showing {
-    match waiting {
-        Some(Request::Profile(profile)) => profile.showing(),
-        Some(Request::List { showing, .. }) => *showing,
-        _ => Showing::Nothing,
-    }
-}
-
-/// Whether the progress of a request is that of its octets.
-fn is_long(waiting: &Option<Request<'_>>) -> bool {
-    matches!(waiting, Some(Request::List { .. }))
-}
-
-/// Asks a meter over the line to it, whose octets are counted.
-fn ask_counted<
-    'a,
-    H: Clock + AllocGlobal,
-    L: Read + Write + Failing + Drop,
-    W: Write,
-    P: CountsOctets + Drop,
->(
-    host: &H,
-    asking: &Asking<'a>,
-    plan: Plan,
-    protection: Option<Protection>,
-    line: L,
-    waiting: &mut Option<Request<'a>>,
-    output: &mut W,
-    progress: &RefCell<P>,
-    refused: &mut Vec<Fault<'a>>,
-) -> Result<(), Fault<'a>> {
-    let line = WatchedLine { line, progress };
-    ask_over(
-        host,
-        asking,
-        plan,
-        protection,
-        line,
-        waiting,
-        output,
-        &mut io::sink(),
-        &mut Unfollowed,
-        refused,
-    )
-}
-
-/// Asks a meter over the line to it, and shows on standard error how many octets have come.
-fn ask_with_octets<
-    'a,
-    H: Clock + AllocGlobal,
-    L: Read + Write + Failing + Drop,
-    W: Write,
-    E: Write,
->(
-    host: &H,
-    asking: &Asking<'a>,
-    plan: Plan,
-    protection: Option<Protection>,
-    line: L,
-    waiting: &mut Option<Request<'a>>,
-    output: &mut W,
-    errors: &mut E,
-    refused: &mut Vec<Fault<'a>>,
-) -> Result<(), Fault<'a>> {
-    let showing = showing_of(waiting);
-    let progress = RefCell::new(OctetProgress::new(host, host.alloc(), errors, showing));
-    let told = ask_counted(
-        host, asking, plan, protection, line, waiting, output, &progress, refused,
-    );
-    if let Ok(mut progress) = progress.try_borrow_mut() {
-        progress.end();
-    }
-    drop(progress);
-    told
-}
-
-/// Asks a meter over the line to it, and shows the progress on standard error.
-fn ask_with_progress<
-    'a,
-    H: Clock + AllocGlobal,
-    L: Read + Write + Failing + Drop,
-    W: Write,
-    E: Write,
->(
-    host: &H,
-    asking: &Asking<'a>,
-    plan: Plan,
-    protection: Option<Protection>,
-    line: L,
-    waiting: &mut Option<Request<'a>>,
-    output: &mut W,
-    errors: &mut E,
-    refused: &mut Vec<Fault<'a>>,
-) -> Result<(), Fault<'a>> {
-    let mut progress = Progress::new(host, host.alloc(), errors, showing_of(waiting));
-    let told = ask_over(
-        host,
-        asking,
-        plan,
-        protection,
-        line,
-        waiting,
-        output,
-        &mut io::sink(),
-        &mut progress,
-        refused,
-    );
-    drop(progress);
-    told
 }
 
 /// Calls a meter once.

@@ -21,7 +21,7 @@ struct Change {
 }
 
 impl<'a, S: End> MeterSession<'a, '_, S> {
-    /// The attribute to be set, and what it shows before that if it is a clock's time.
+    /// The attribute to be set, and its time before that if it is a clock's.
     fn before_set(&mut self, said: &'a str, class: u16) -> Result<Change, Fault<'a>> {
         let of = self.attribute_said(said, class)?;
         let clock = clock_set_by(of);
@@ -78,7 +78,7 @@ impl<'a, S: End> MeterSession<'a, '_, S> {
         self.judge(said, true, answer)
     }
 
-    /// Calls a method, and prints that and what it returns; of a clock also what it showed before and shows now.
+    /// Calls a method, and prints that and the returned value; for a clock also its time before and after.
     #[inline(never)]
     pub fn act_one<W: Write>(
         &mut self,
@@ -102,7 +102,7 @@ impl<'a, S: End> MeterSession<'a, '_, S> {
         told
     }
 
-    /// Prints a change. `returned` is the encoding of the value that a method returned; it is empty if there is none.
+    /// Prints a change. `returned` is the encoding of the value that a method returned; it is empty if none was returned.
     fn put_change<W: Write>(
         &mut self,
         said: &'a str,

@@ -49,7 +49,7 @@ enum Correction {
     Set,
 }
 
-/// What a meter's clock showed, and the second of the system's clock then.
+/// The time of a meter's clock, and the second of the system's clock then.
 #[derive(Clone, Copy)]
 pub struct Comparison {
     shown: Option<[u8; 12]>,
@@ -88,7 +88,7 @@ fn second_in(clock: &[u8; 12]) -> Option<i64> {
     Some(utc_of(secs(&local)?, deviation_of(clock)))
 }
 
-/// The system's time as a date-time, with the deviation and the daylight saving of what the clock showed.
+/// The system's time as a date-time, with the deviation and the daylight saving of the clock.
 fn time_to_set(shown: Option<[u8; 12]>, system: u32) -> [u8; 12] {
     let Some(shown) = shown else {
         return octets(system.min(LAST_SECOND));
@@ -226,7 +226,7 @@ impl Comparison {
 }
 
 impl ClockRequest {
-    /// The word for what was done, or that nothing was.
+    /// The word for a correction.
     fn word(&self, done: Correction) -> &'static [u8] {
         match (done, self.format) {
             (Correction::Shifted, _) => b"shifted",

@@ -11,6 +11,7 @@ mod given;
 mod guards;
 mod keys;
 mod listing;
+mod over_line;
 mod pace;
 mod profile;
 mod requests;

@@ -45,7 +45,7 @@ pub struct TimeRange {
     to: [u8; 12],
 }
 
-/// Which rows of a profile are printed, and how, and what is shown of the progress.
+/// Which rows of a profile are printed, and how, and whether the progress is shown.
 #[derive(Clone, Copy)]
 pub struct ProfileRequest<'a> {
     name: &'a str,
@@ -130,7 +130,7 @@ fn range_of<'a>(options: &ProfileOptions<'a>) -> Result<Option<TimeRange>, Fault
     }))
 }
 
-/// The request that the options make, of whose progress this is shown.
+/// The request that the options make, with this much of its progress shown.
 pub fn request_of<'a>(
     options: &ProfileOptions<'a>,
     showing: Showing,
@@ -151,7 +151,7 @@ impl<'a> ProfileRequest<'a> {
         self.name
     }
 
-    /// What is shown of its progress.
+    /// Whether its progress is shown.
     pub fn showing(&self) -> Showing {
         self.showing
     }

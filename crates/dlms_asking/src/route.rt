@@ -93,7 +93,7 @@ pub fn route_of<'a>(meter: &MeterOptions<'a>, client: u32) -> Result<(Route, &'a
 #[derive(Clone, Copy)]
 pub struct PollLine<'a> {
     pub address: &'a str,
-    /// There is none if no option asks for one: then the poll's client asks the meter at address 1 over HDLC.
+    /// Absent if no option asks for one: then the poll's client asks the meter at address 1 over HDLC.
     pub route: Option<Route>,
 }
 

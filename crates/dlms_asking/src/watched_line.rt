@@ -1,4 +1,4 @@
-//! A line for whose octets somebody waits: how many have come is shown while they come.
+//! A line that shows how many octets have come while they come.
 
 use dlms_lines::Dialling;
 use dlms_printing::{Progress, Seen, Showing};

@@ -19,7 +19,7 @@ StaysRefused limit = (bytes more after : List ℕ) (m : Parts) → messages.IsRe
 abbrev pub IsLate : ℕ → List ℕ → List ℕ → Type 0
 IsLate limit bytes late = ((late ≡ []) × messages.HasNoMessage limit bytes) ⊎ messages.IsRefused limit bytes
 
--- the stream that is left, with what comes, is messages whose APDUs are these, and a rest
+-- the stream that is left, with the octets that come, is messages whose APDUs are these, and a rest
 pub record Run (limit : ℕ) (segments : Segmented) (blocks : Blocked) (stream : List ℕ) (apdus : List (List ℕ)) : Type 0 where
   pub ms : List Parts
   pub rest : List ℕ

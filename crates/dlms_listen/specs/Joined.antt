@@ -1,4 +1,4 @@
--- What a frame or a block brings of an APDU.
+-- The segments and blocks of an APDU, joined.
 use Rattle.std.specs.Prelude.{◌≡◌, ◌==◌, ◌||◌, ◌&&◌, ◌+◌, ◌%◌, not, nat_lt, nat_le, if◌then◌else◌, ℕ, Bool, true, false, List, [], ◌∷◌, ◌++◌, length, Option, Some, None, is_some}
 use Rattle.std.specs.Int.{w16, from_be_bytes}
 use Rattle.dlms_frame.specs.Frame.{Parts}
@@ -9,7 +9,7 @@ use Rattle.dlms_listen.specs.declared.fault.Skip.{Skip}
 use Rattle.dlms_listen.specs.declared.fault.Skip.TheVariants as skip
 use Rattle.dlms_listen.specs.declared.segments.TheConstants.{MOST_JOINED}
 
--- whether an APDU is complete, and what was left out
+-- whether an APDU is complete, and the cause of octets left out
 pub record Outcome : Type 0 where
   pub complete : Bool
   pub skip : Option Skip
@@ -21,12 +21,12 @@ pub record Segmented : Type 0 where
   pub octets : List ℕ
   pub ends : Option (Address × Address)
 
--- what a frame brings, and what is kept then
+-- the outcome of a frame, and the segments after it
 pub record Segment : Type 0 where
   pub outcome : Outcome
   pub kept : Segmented
 
--- the octets behind an LLC header (IEC 62056-46, 5.3.2): E6 E7 00 from a meter, E6 E6 00 from a client
+-- the octets after an LLC header (IEC 62056-46, 5.3.2): E6 E7 00 from a meter, E6 E6 00 from a client
 abbrev pub behind_llc : List ℕ → Option (List ℕ)
 behind_llc (a ∷ b ∷ c ∷ apdu) =
     if (a == 0xE6) && (((b == 0xE6) || (b == 0xE7)) && (c == 0)) then Some apdu else None
@@ -87,7 +87,7 @@ pub record Blocked : Type 0 where
   pub octets : List ℕ
   pub last : ℕ
 
--- what a block brings, and what is kept then
+-- the outcome of a block, and the blocks after it
 pub record Taken : Type 0 where
   pub outcome : Outcome
   pub kept : Blocked
@@ -154,7 +154,7 @@ block_of kept block =
     else if block.number == 1 then blocks_so_far block (if nat_lt 0 kept.last then Some skip.TornBlocks else None) block.octets
     else blocks_left_out skip.TornBlocks
 
--- what an APDU brings if it is a block, and what is kept then
+-- the outcome of an APDU that is a block, and the blocks after it
 abbrev pub outcome_of : Blocked → Option Part → Option Outcome
 outcome_of kept None = None
 outcome_of kept (Some block) = Some (block_of kept block).outcome

@@ -1,4 +1,4 @@
--- What a listener does with the octets of a line.
+-- The steps of a listener over the octets of a line.
 use Rattle.std.specs.Prelude.{◌≡◌, ◌⊎◌, ◌==◌, ◌||◌, if◌then◌else◌, ℕ, Bool, true, false, List, [], ◌∷◌, ◌++◌, Option, Some, None, IfSome, IfNone, option_map}
 use Rattle.std.specs.Option.{option_or}
 use Rattle.dlms_frame.specs.Frame.{Parts}
@@ -18,7 +18,7 @@ use Rattle.dlms_listen.specs.declared.listener.Found.{Found}
 use Rattle.dlms_listen.specs.declared.listener.Found.TheVariants as place
 
 -- the octets of a line up to now: those of frames, messages and telegrams that have not ended, the segments and blocks of APDUs that have not,
--- where the APDU is that the last call completed, and what it left out
+-- the place of the APDU that the last call completed, and the cause of octets left out
 pub record Line : Type 0 where
   pub carrier : Option Carrier
   pub frames : frames.Kept
@@ -52,7 +52,7 @@ joined_in line = record { segments = line.segments; blocks = line.blocks; found 
 abbrev pub nothing_found : Segmented → Blocked → Option Skip → Joined
 nothing_found segments blocks skipped = record { segments = segments; blocks = blocks; found = place.Nothing; skipped = skipped }
 
--- where an APDU is once it is complete: in its frame or message, or in its blocks if it is the last one
+-- the place of an APDU once it is complete: its frame or message, or its blocks if it is the last one
 abbrev pub found_after : Found → Option Outcome → Found
 found_after found None = found
 found_after found (Some outcome) = if outcome.complete then place.Blocks else place.Nothing
@@ -94,7 +94,7 @@ pub record TakesFrames (old : Line) (taken : List ℕ) (new : Line) : Type 0 whe
   pub telegrams : new.telegrams ≡ old.telegrams
   pub joined : joined_in new ≡ with_frame old.segments old.blocks new.frames.frame
 
--- The octets behind a refused header are taken and not read. The call that reads the header reports the cause.
+-- The octets after a refused header are taken and not read. The call that reads the header reports the cause.
 abbrev pub SkipsHeader : Line → (read : List ℕ) → Line → Type 0
 SkipsHeader old read new =
     ((read ≡ []) × (new.skipped ≡ None))

@@ -16,7 +16,7 @@ abbrev pub IsFresh : Option ℕ → ℕ → Type 0
 IsFresh None counter = Unit {0}
 IsFresh (Some last) counter = last < counter
 
--- the place of the first sender with a title, which is the end if there is none
+-- the place of the first sender with a title, which is the end if no sender has it
 abbrev pub place_in : List ℕ → List Sender → ℕ
 place_in title [] = 0
 place_in title (s ∷ ss) = if bytes_eq s.title title then 0 else place_in title ss + 1

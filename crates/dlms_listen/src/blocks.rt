@@ -136,8 +136,8 @@ impl Blocks {
         was_open
     }
 
-    /// Adds the octets of a block to the APDU so far. Returns whether it is complete, and what was left out: `before`, or too many
-    /// octets.
+    /// Adds the octets of a block to the APDU so far. Returns whether it is complete, and the cause of octets left out: `before`, or
+    /// too many.
     fn add(&mut self, block: Block<'_>, before: Option<Skip>) -> (bool, Option<Skip>)
         ensures outcome { record { complete = result.0; skip = result.1 }
             ≡ (blocks_so_far (part_of block.entry) before (self.old.octets ++ block.entry.octets.now)).outcome }
@@ -151,7 +151,7 @@ impl Blocks {
         (block.is_last, before)
     }
 
-    /// Takes a block. Returns whether an APDU is complete, and what was left out.
+    /// Takes a block. Returns whether an APDU is complete, and the cause of octets left out.
     fn take(&mut self, block: Block<'_>) -> (bool, Option<Skip>)
         ensures outcome { record { complete = result.0; skip = result.1 } ≡ (block_of self.old (part_of block.entry)).outcome }
         ensures kept { self.new ≡ (block_of self.old (part_of block.entry)).kept }
@@ -173,7 +173,8 @@ impl Blocks {
         )
     }
 
-    /// Takes the block that is all of an APDU, if it is one. Returns whether another APDU is complete, and what was left out.
+    /// Takes the block that is all of an APDU, if it is one. Returns whether another APDU is complete, and the cause of octets
+    /// left out.
     pub fn offer(&mut self, apdu: &[u8]) -> Option<(bool, Option<Skip>)>
         ensures outcome { option_map (λ r. record { complete = r.0; skip = r.1 }) result ≡ outcome_of self.old (block_in apdu.now) }
         ensures kept { self.new ≡ kept_after self.old (block_in apdu.now) }

@@ -42,7 +42,7 @@ fn stale_by(last: Option<u32>, counter: u32) -> Option<u32>
     }
 }
 
-/// The place of the sender with this title; the end if there is none.
+/// The place of the sender with this title; the end if no sender has it.
 fn place_of(senders: &[Sender], title: [u8; 8]) -> usize
     ensures place { result ≡ place_in title senders.now }
     ensures within { result ≤ length senders.now }

@@ -14,7 +14,7 @@ const LAST_MEDIUM: u8 = 15;
 /// The number of values in an element of a push object list: class, name, attribute, index (IEC 62056-6-2, Push setup).
 const LISTED: u32 = 4;
 
-/// A value, and what the notification says of it.
+/// A value of a notification, with its name, scaler and unit if the notification has them.
 #[derive(Clone, Copy)]
 pub struct Entry<'a> {
     /// The logical name of its object (OBIS code).

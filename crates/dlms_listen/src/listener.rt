@@ -56,8 +56,8 @@ impl Model for Listener {
     } };
 }
 
-/// Takes an APDU that is complete in a frame or in a message. Returns where it is, which is in the blocks if it is the last one of
-/// them, and what was left out: with it or `before` it.
+/// Takes an APDU that is complete in a frame or in a message. Returns its place, which is the blocks if it is the last one of them,
+/// and the cause of octets left out: with it or `before` it.
 fn join_apdu(
     blocks: &mut Blocks,
     apdu: &[u8],
@@ -75,7 +75,7 @@ fn join_apdu(
     }
 }
 
-/// Takes a frame. Returns where an APDU is complete, and what was left out.
+/// Takes a frame. Returns the place of a complete APDU, and the cause of octets left out.
 fn join_frame(
     segments: &mut Segments,
     blocks: &mut Blocks,
@@ -257,7 +257,7 @@ impl Listener {
         self.carrier
     }
 
-    /// What the last call left out.
+    /// Why the last call left out octets, if it did.
     pub fn skipped(&self) -> Option<Skip>
         ensures { result ≡ self.now.skipped }
     {

@@ -34,7 +34,7 @@ pub struct Seal {
     pub is_authenticated: bool,
 }
 
-/// What is received.
+/// A received message.
 #[derive(Clone, Copy)]
 pub enum Content<'a> {
     Notification(Notification<'a>),
@@ -56,7 +56,7 @@ pub struct Receiver<'k> {
     senders: Senders,
 }
 
-/// What a ciphered APDU contains, and its seal.
+/// The plain text of a ciphered APDU, and its seal.
 #[derive(Drop)]
 struct Plain {
     apdu: ArrayVec<u8, MOST_APDU>,
@@ -139,7 +139,7 @@ fn open(keys: Option<&Stations>, apdu: &[u8]) -> Result<Plain, Refusal>
     }
 }
 
-/// Reads the notification in what a ciphered APDU contains.
+/// Reads the notification in the plain text of a ciphered APDU.
 fn read_plain(plain: &ArrayVec<u8, MOST_APDU>) -> Result<Notification<'_>, Refusal>
     ensures ok { IfOk result (λ n. IsNotification plain.now.items (said n)) }
     ensures err { IfErr result (λ why. (why ≡ refusal_of plain.now.items) × IsNone plain.now.items) }

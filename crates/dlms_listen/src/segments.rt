@@ -39,7 +39,7 @@ fn carries_apdu(control: u8) -> bool
     control % 2 == 0 || control == UI || control == UI_POLL
 }
 
-/// The octets behind an LLC header of either direction.
+/// The octets after an LLC header of either direction.
 fn behind_llc(info: &[u8]) -> Option<&[u8]>
     ensures { option_map (λ a. a.now) result ≡ behind_llc info.now }
 {
@@ -101,7 +101,8 @@ impl Segments {
         }
     }
 
-    /// Adds octets to the APDU so far. Returns whether it is complete, and what was left out: `before`, or too many octets.
+    /// Adds octets to the APDU so far. Returns whether it is complete, and the cause of octets left out: `before`, or too
+    /// many.
     fn add(
         &mut self,
         frame: &Frame<'_>,
@@ -124,7 +125,7 @@ impl Segments {
         (!frame.segmented, before)
     }
 
-    /// Takes the first segment of an APDU, behind its LLC header.
+    /// Takes the first segment of an APDU, after its LLC header.
     fn begin(&mut self, frame: &Frame<'_>, apdu: Option<&[u8]>) -> (bool, Option<Skip>)
         ensures outcome { record { complete = result.0; skip = result.1 }
             ≡ (first_segment self.old frame.now (option_map (λ a. a.now) apdu.entry)).outcome }
@@ -137,8 +138,8 @@ impl Segments {
         }
     }
 
-    /// Takes a frame. Returns whether an APDU is complete, and what was left out: of both, if a frame begins an APDU within the
-    /// segments of another.
+    /// Takes a frame. Returns whether an APDU is complete, and the cause of octets left out; a frame that begins an APDU within the
+    /// segments of another leaves those out.
     pub fn take(&mut self, frame: &Frame<'_>) -> (bool, Option<Skip>)
         ensures outcome { record { complete = result.0; skip = result.1 } ≡ (segment_of self.old frame.now).outcome }
         ensures kept { self.new ≡ (segment_of self.old frame.now).kept }

@@ -16,7 +16,7 @@ const MOMENT: usize = 12;
 /// The factor of the unit kilo, as a power of ten.
 const KILO: i8 = 3;
 
-/// What a value of a line is.
+/// The form of a value of a line.
 #[derive(Clone, Copy)]
 enum Form<'a> {
     Moment([u8; MOMENT]),
@@ -129,7 +129,7 @@ fn are_characters(digits: &[u8]) -> bool {
     false
 }
 
-/// What a value is.
+/// The form of a value.
 fn form_of<'a>(group: &Group<'a>) -> Form<'a> {
     if let Some(moment) = moment_in(group.octets) {
         return Form::Moment(moment);

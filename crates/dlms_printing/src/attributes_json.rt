@@ -9,7 +9,7 @@ use dlms_text::{append_decimal, append_quoted};
 use std::alloc::AllocError;
 use std::io::Write;
 
-/// What a clock showed before it was changed, and shows now.
+/// The time of a clock before it was changed, and its time now.
 #[derive(Clone, Copy)]
 pub struct ClockChange {
     pub before: Option<[u8; 12]>,
@@ -92,7 +92,7 @@ impl<'a, W: Write> Teller<'a, '_, W> {
     }
 
     /// Prints as an object and a line feed that an attribute was set, or a method called that returned this encoding; it is empty if
-    /// nothing was returned. Of a clock it has the times before and after.
+    /// nothing was returned. The object of a clock has the times before and after.
     pub fn put_success(
         &mut self,
         of: Descriptor,

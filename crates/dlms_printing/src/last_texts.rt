@@ -1,4 +1,4 @@
-//! What the cells of the last row show, as text.
+//! The cells of the last row, as text.
 
 use crate::table::{ColumnShape, Table};
 use dlms_buffer::Cell;
@@ -32,7 +32,7 @@ fn twelve(octets: &[u8]) -> Option<[u8; 12]> {
     Some(twelve)
 }
 
-/// The date-time that a value is, if a null below it stands for a later one.
+/// The date-time that a value is, if a null below it means a later one.
 fn clock_of(table: &Table<'_>, shape: &ColumnShape, value: &Value<'_>) -> Option<[u8; 12]> {
     match value {
         Value::Octets(_, octets) if table.moves_on(shape) => twelve(octets),
@@ -131,7 +131,7 @@ impl LastTexts {
         Ok(())
     }
 
-    /// What the cell of a column shows.
+    /// The text of the cell of a column.
     pub fn field(&self, at: usize) -> &[u8] {
         let start = match self.cells.get(at.saturating_sub(1)) {
             Some(cell) if at > 0 => cell.end,

@@ -3,14 +3,15 @@
 use dlms_buffer::BufferFault;
 use dlms_values::{Items, Value, ValueFault, read};
 
-/// The tag of an array, and the octet behind it that says how many octets its count has: 80 more than that.
+/// The tag of an array (A-XDR, IEC 62056-5-3).
 const ARRAY: u8 = 1;
 
+/// Added to the number of octets of a long count, in the octet before them.
 const LONG_COUNT: u8 = 0x80;
 
 const MOST_COUNT_OCTETS: usize = 4;
 
-/// What a buffer is, by its first octets.
+/// The kind of a buffer, by its first octets.
 #[derive(Clone, Copy, PartialEq, Eq)]
 enum Kind {
     Unknown,
@@ -18,14 +19,14 @@ enum Kind {
     Other,
 }
 
-/// What the first octets of a buffer say: an array of this many rows, which begin at this offset.
+/// The first octets of a buffer: those of an array of this many rows, which begin at this offset.
 enum Beginning {
     Short,
     Rows { count: u32, at: usize },
     Other,
 }
 
-/// The rows of an array that comes in pieces. It remembers the offset behind the last complete row, so that no row is read again from
+/// The rows of an array that comes in pieces. It remembers the offset after the last complete row, so that no row is read again from
 /// the array's start.
 #[derive(Clone, Copy)]
 pub struct ListedRows {
@@ -47,7 +48,7 @@ fn number_in(octets: &[u8]) -> u32 {
     number
 }
 
-/// The count behind the tag of an array.
+/// The count after the tag of an array.
 fn count_in(octets: &[u8]) -> Beginning {
     let [first, rest @ ..] = octets else {
         return Beginning::Short;
@@ -99,7 +100,7 @@ impl ListedRows {
         }
     }
 
-    /// Whether the buffer is an array. A compact array is none.
+    /// Whether the buffer is an array, and no compact array.
     pub fn is_array(&self) -> bool {
         self.kind == Kind::Array
     }

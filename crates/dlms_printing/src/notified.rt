@@ -18,7 +18,7 @@ use std::io::Write;
 /// The logical name of the clock (IEC 62056-6-1).
 const CLOCK: [u8; 6] = [0, 0, 1, 0, 0, 255];
 
-/// A notification or a telegram, where it came from, and the values in it.
+/// A notification or a telegram, its place of origin, and the values in it.
 #[derive(Clone, Copy)]
 pub struct Notified<'n> {
     pub from: &'n str,

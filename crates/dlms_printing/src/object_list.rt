@@ -13,7 +13,7 @@ use std::io::Write;
 
 /// Gives the values of attributes for an object list.
 pub trait Values<'a> {
-    /// Appends the value of an attribute, or why there is none: as text behind the line of the attribute, or as JSON.
+    /// Appends the value of an attribute, or why it cannot be read: as text after the line of the attribute, or as JSON.
     fn append_value(
         &mut self,
         text: &mut Vec<u8>,

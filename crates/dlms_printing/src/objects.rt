@@ -117,7 +117,7 @@ fn append_name(alloc: Global, text: &mut Vec<u8>, code: [u8; 6]) -> Result<(), A
     }
 }
 
-/// Ends a column that began at this place: it gets blanks up to its width, which first grows to what the column has.
+/// Ends a column that began at this place: it gets blanks up to its width, which first grows to the length of its text.
 fn end_column(text: &mut Vec<u8>, begin: usize, width: &mut usize) -> Result<usize, AllocError> {
     let length = text.len().saturating_sub(begin);
     *width = (*width).max(length);
@@ -133,7 +133,7 @@ fn append_class(text: &mut Vec<u8>, entry: &Entry<'_, Global>) -> Result<(), All
     append_labelled(text, b", version ", u64::from(entry.version))
 }
 
-/// Appends the line of an entry of the object list, in columns that grow to what it has.
+/// Appends the line of an entry of the object list, in columns that grow to fit it.
 fn append_entry(
     alloc: Global,
     text: &mut Vec<u8>,
@@ -191,7 +191,7 @@ pub fn has_value(number: u8, mode: u8) -> bool {
     number != LOGICAL_NAME && matches!(mode, 1 | 3 | 4 | 6)
 }
 
-/// Appends the line of an entry that stands above those of its attributes and methods.
+/// Appends the line of an entry, above the lines of its attributes and methods.
 pub fn append_heading(
     alloc: Global,
     text: &mut Vec<u8>,

@@ -75,7 +75,7 @@ pub fn is_float(value: &Value<'_>) -> bool {
     matches!(value, Value::Float32(_) | Value::Float64(_))
 }
 
-/// The exponent in the text of a float after its `e`; 0 if there is none.
+/// The exponent in the text of a float after its `e`; 0 without an exponent.
 fn exponent_in(text: &[u8]) -> i32 {
     match str::from_utf8(text) {
         Ok(text) => text.parse::<i32>().unwrap_or(0),

@@ -6,7 +6,7 @@ use std::io;
 use std::io::Write;
 use std::time::{Clock, Duration, Instant};
 
-/// What is shown of the progress.
+/// How much of the progress is shown.
 #[derive(Clone, Copy, PartialEq, Eq)]
 pub enum Showing {
     Nothing,
@@ -67,7 +67,7 @@ impl RowsSeen {
     }
 }
 
-/// What came of all that is to come.
+/// The part of the expected data that has come.
 pub trait Seen {
     /// Appends the line that is redrawn, after so many milliseconds.
     fn append_progress(&self, text: &mut Vec<u8>, passed: u64) -> Result<(), AllocError>;
@@ -267,7 +267,7 @@ impl<'e, H: Clock, E: Write> Progress<'e, H, E> {
         self.errors.write(octets)
     }
 
-    /// Passes on what was written.
+    /// Flushes standard error.
     pub fn flush(&mut self) -> io::Result<()> {
         self.errors.flush()
     }
@@ -282,7 +282,7 @@ impl<'e, H: Clock, E: Write> Progress<'e, H, E> {
         text.extend_from_slice(b"\r")
     }
 
-    /// Appends what stands at the end.
+    /// Appends the last line.
     fn append_end(
         &self,
         text: &mut Vec<u8>,

@@ -126,7 +126,7 @@ impl<'p> Table<'p> {
         append_cell(text, cell, period, shape.scaler)
     }
 
-    /// Whether a null of this column stands for a later time than the row before it.
+    /// Whether a null of this column means a later time than that of the row before it.
     pub fn moves_on(&self, shape: &ColumnShape) -> bool {
         !self.raw && self.period > 0 && shape.has_times()
     }

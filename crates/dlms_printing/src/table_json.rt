@@ -69,7 +69,7 @@ impl Table<'_> {
         })
     }
 
-    /// A cell. A null that stands for a later time has that time.
+    /// A cell. A null that means a later time has that time.
     fn put_cell_json<'a, W: Write>(
         &self,
         teller: &mut Teller<'a, '_, W>,

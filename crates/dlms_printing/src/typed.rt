@@ -115,7 +115,7 @@ impl<'a, W: Write> Teller<'a, '_, W> {
         Ok(())
     }
 
-    /// Octets as text if they are text, else in hexadecimal digits.
+    /// Octets as text if they are text, otherwise in hexadecimal digits.
     fn put_octets(&mut self, kind: OctetsKind, octets: &[u8]) -> Result<(), Fault<'a>> {
         if is_text(kind, octets) {
             self.put_quoted(b",\"text\":\"", octets, true)
@@ -137,7 +137,7 @@ impl<'a, W: Write> Teller<'a, '_, W> {
         Ok(())
     }
 
-    /// What a value is that contains no others, after its type, with its time if it is one.
+    /// A value that contains no others, after its type, with its time if it is one.
     fn put_content(&mut self, value: &Value<'_>, is_time: bool) -> Result<(), Fault<'a>> {
         match value {
             Value::Octets(kind, octets) => {

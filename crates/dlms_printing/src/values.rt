@@ -134,7 +134,7 @@ fn append_clock(text: &mut Vec<u8>, octets: Option<[u8; 12]>) -> Result<(), Allo
     append_parted(text, b":", octets[7])
 }
 
-/// Appends a clock's code, what it showed, and what it shows now.
+/// Appends a clock's code, its earlier time, and its time now.
 fn append_clocks(
     text: &mut Vec<u8>,
     code: [u8; 6],
@@ -149,7 +149,7 @@ fn append_clocks(
     text.extend_from_slice(b"\n")
 }
 
-/// Prints a clock's code, what it showed, and what it shows now.
+/// Prints a clock's code, its earlier time, and its time now.
 pub fn put_clock<'a, W: Write>(
     alloc: Global,
     output: &mut W,
