@@ -82,7 +82,7 @@ fn append_title(alloc: Global, name: &mut String, title: [u8; 8]) -> Result<(), 
     Ok(())
 }
 
-/// The name of a sender's file: its title, or the last part of where the notification came from, without its port.
+/// The name of a sender's file: its title, or the last part of its place, without a port.
 fn file_of(alloc: Global, folder: &str, notified: &Notified<'_>) -> Result<String, AllocError> {
     let mut name = format!(in alloc; "{folder}/")?;
     match notified.received.seal {

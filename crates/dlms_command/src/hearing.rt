@@ -40,13 +40,24 @@ pub struct Tally {
 }
 
 impl Tally {
+    /// Before anything came, with this many notifications wanted.
+    pub fn new(left: Option<u32>) -> Self {
+        Tally {
+            received: 0,
+            refused: 0,
+            skipped: 0,
+            noise: 0,
+            left,
+        }
+    }
+
     /// Whether anything came.
     pub fn has_any(&self) -> bool {
         self.received > 0 || self.refused > 0 || self.skipped > 0 || self.noise > 0
     }
 }
 
-/// What is heard on all lines of a run.
+/// The receiver of all lines of a run, its output and its counts.
 #[derive(Drop)]
 pub struct Hearing<'a, 'k, 'o, H, W, E> {
     pub host: &'o H,

@@ -60,8 +60,8 @@ fn is_plain(octets: &[u8]) -> bool {
     octets.iter().all(|octet| octet.is_ascii_graphic())
 }
 
-/// Says which meter a new file begins with, by the public client's route. Nothing is said if the meter does not tell, or calls itself by other octets than those of a
-/// plain text.
+/// Says which meter a new file begins with, by the public client's route. Nothing is said if the meter does not send its name, or sends
+/// one that is no plain text.
 pub fn introduce<L: Dialling, E: Write>(
     alloc: Global,
     line: &mut L,

@@ -1,4 +1,4 @@
-//! What the program does for its arguments, over any three streams.
+//! The program's jobs, by its arguments, over any three streams.
 #![tactic(auto)]
 
 ghost use Rattle.std.specs.Prelude.{◌≡◌, ◌≢◌, ◌⊎◌, [], map, IfOk, MatchResult, is_some, true};
@@ -47,6 +47,7 @@ mod polled;
 mod report;
 mod skipped;
 mod streams;
+mod telegrams;
 mod watched;
 
 pub use dlms_faults::Fault;
@@ -340,7 +341,7 @@ fn run_loopback<'a, H: Net + Files<File = File> + AllocGlobal, W: Write>(
     }
 }
 
-/// Serves a meter on a TCP port, or where `on_line` is set on a serial line.
+/// Serves a meter on a TCP port, or on a serial line if `on_line` is set.
 #[inline(never)]
 fn run_meter<'a, H: Net + Files<File = File> + Clock + AllocGlobal, P: Pages, W: Write, E: Write>(
     host: &H,
@@ -366,7 +367,7 @@ fn run_meter<'a, H: Net + Files<File = File> + Clock + AllocGlobal, P: Pages, W:
     }
 }
 
-/// What is served by these options, and to whom.
+/// The place, the carrier and the limits that these options give a meter.
 fn serving_by<'a>(options: &ServeOptions<'a>) -> Serving<'a> {
     Serving {
         address: options.line.unwrap_or(options.listen.unwrap_or(LISTEN)),
@@ -387,7 +388,7 @@ fn serving_by<'a>(options: &ServeOptions<'a>) -> Serving<'a> {
     }
 }
 
-/// Recovers the meter in a file, and serves it on a TCP port, or where `on_line` is set on a serial line.
+/// Recovers the meter in a file, and serves it on a TCP port, or on a serial line if `on_line` is set.
 #[inline(never)]
 fn run_serve<'a, H: Net + Files<File = File> + Clock + AllocGlobal, W: Write, E: Write>(
     host: &H,

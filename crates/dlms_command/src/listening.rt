@@ -23,7 +23,7 @@ const INPUT: &str = "standard input";
 
 const INPUT_NAME: &str = "-";
 
-/// What an address of a UDP port begins with.
+/// The prefix of a UDP port's address.
 const UDP: &str = "udp:";
 
 /// For how many seconds a read of a line waits.
@@ -45,7 +45,7 @@ fn names_in<'a>(alloc: Global, text: Option<&'a str>) -> Result<Vec<[u8; 6]>, Fa
 }
 
 /// Hears a reader to its end, or until it has sent as many notifications as are wanted. A time without octets is not its end.
-fn hear_reader<'f, H: Net + Files<File = File> + AllocGlobal, R: Read, W: Write, E: Write>(
+pub fn hear_reader<'f, H: Net + Files<File = File> + AllocGlobal, R: Read, W: Write, E: Write>(
     hearing: &mut Hearing<'f, '_, '_, H, W, E>,
     place: &'f str,
     carrier: Option<Carrier>,
@@ -77,7 +77,7 @@ fn hear_reader<'f, H: Net + Files<File = File> + AllocGlobal, R: Read, W: Write,
     Ok(())
 }
 
-/// Says where it listens.
+/// Prints the place that it listens on.
 fn announce<W: Write>(output: &mut W, place: &str) -> io::Result<()> {
     writeln!(output, "listening on {place}")?;
     output.flush()
@@ -157,13 +157,7 @@ fn listen_with<
             names,
         },
         is_quiet: options.quiet,
-        tally: Tally {
-            received: 0,
-            refused: 0,
-            skipped: 0,
-            noise: 0,
-            left: options.count,
-        },
+        tally: Tally::new(options.count),
         output,
         errors,
     };

@@ -2,18 +2,21 @@
 
 use crate::outcome::showing_for;
 use crate::report::run_report;
+use crate::telegrams::{explain_telegrams, receiver_for};
 use crate::{Fault, Terminals, buffer_input, buffer_output, result_with_flush};
 use dlms_asking::{LAST_OF_DAY, MIDNIGHT, second_in, stations_of};
 use dlms_data::LAST_SECOND;
 use dlms_explain::{ExplainFault, Form as ExplainForm, Layout, Painted, explain_with};
+use dlms_keys::Stations;
 use dlms_plot::{Choice, Form, Quantity, plot_chosen};
 use dlms_printing::{BytesSeen, Progress, Showing};
-use dlms_security::{NoKeys, Opener};
+use dlms_security::NoKeys;
 use dlms_show::{Curve, ShowFault, show_file, show_file_as_json};
 use dlms_words::{ColorChoice, ExplainOptions, OutputFormat, PlotOptions, ShowOptions};
 use std::alloc::Global;
 use std::fs::File;
-use std::io::{Read, Write};
+use std::io::{BufRead, Read, Write};
+use std::net::Net;
 use std::rt::Files;
 use std::time::Clock;
 use std::{fs, io};
@@ -31,16 +34,21 @@ pub fn named_file(file: Option<&str>) -> Option<&str> {
     file.filter(|name| *name != INPUT_NAME)
 }
 
-/// How an explanation is written, and who looks at it.
+/// How an explanation is written, who looks at it, and the keys that open ciphered APDUs.
 #[derive(Clone, Copy)]
-struct Looking {
+struct Looking<'k> {
     form: ExplainForm,
     is_colored: bool,
     showing: Showing,
+    keys: Option<&'k Stations>,
 }
 
 /// How these options want an explanation written for these terminals.
-fn looking_by(options: &ExplainOptions<'_>, terminals: Terminals) -> Looking {
+fn looking_by<'k>(
+    options: &ExplainOptions<'_>,
+    terminals: Terminals,
+    keys: Option<&'k Stations>,
+) -> Looking<'k> {
     Looking {
         form: ExplainForm {
             layout: match (options.format, options.short) {
@@ -57,14 +65,15 @@ fn looking_by(options: &ExplainOptions<'_>, terminals: Terminals) -> Looking {
             ColorChoice::Never => false,
         },
         showing: showing_for(terminals, options.quiet),
+        keys,
     }
 }
 
-/// Explains the frames in a file, or on the input if no file is given; or makes a report of it.
+/// Explains the frames or the telegrams in a file, or on the input if no file is given; or makes a report of it.
 #[inline(never)]
 pub fn run_explain<
     'a,
-    H: Files<File = File> + Clock + AllocGlobal,
+    H: Net + Files<File = File> + Clock + AllocGlobal,
     R: Read + Drop,
     W: Write,
     E: Write,
@@ -79,37 +88,41 @@ pub fn run_explain<
     if let Some(report) = options.html {
         return run_report(host, options, report, input, errors);
     }
-    let looking = looking_by(options, terminals);
     let file = options.file;
     let Some(keys) = options.keys else {
-        return explain_file(host, looking, NoKeys, file, input, output, errors);
+        let looking = looking_by(options, terminals, None);
+        return explain_file(host, looking, file, input, output, errors);
     };
     let stations = stations_of(host, keys)?;
-    let told = explain_file(host, looking, &stations, file, input, output, errors);
+    let looking = looking_by(options, terminals, Some(&stations));
+    let told = explain_file(host, looking, file, input, output, errors);
     drop(stations);
     told
 }
 
-/// The same, with what opens ciphered APDUs.
+/// The same, with the keys.
 #[inline(never)]
 fn explain_file<
     'a,
-    H: Files<File = File> + Clock + AllocGlobal,
-    O: Opener,
+    H: Net + Files<File = File> + Clock + AllocGlobal,
     R: Read + Drop,
     W: Write,
     E: Write,
 >(
     host: &H,
-    looking: Looking,
-    opener: O,
+    looking: Looking<'_>,
     file: Option<&'a str>,
     input: R,
     output: &mut W,
     errors: &mut E,
 ) -> Result<(), Fault<'a>> {
     let Some(file) = named_file(file) else {
-        return explain_input(host, looking, opener, INPUT, input, output);
+        let source = Source {
+            place: INPUT,
+            all: 0,
+            reader: input,
+        };
+        return explain_source(host, looking, source, output, errors);
     };
     match fs::open(host, file) {
         Ok(opened) => {
@@ -117,20 +130,68 @@ fn explain_file<
                 Ok(metadata) => metadata.len(),
                 Err(_) => 0,
             };
-            let showing = if all < LEAST_SHOWN {
-                Showing::Nothing
-            } else {
-                looking.showing
-            };
-            let followed = Followed {
+            let source = Source {
+                place: file,
+                all,
                 reader: opened,
-                seen: BytesSeen { done: 0, all },
-                progress: Progress::new(host, host.alloc(), errors, showing),
             };
-            explain_input(host, looking, opener, file, followed, output)
+            explain_source(host, looking, source, output, errors)
         }
         Err(error) => Err(Fault::of_system(host.alloc(), file, &error)),
     }
+}
+
+/// An input to explain: its name for messages, its number of bytes if that is known, and its reader.
+#[derive(Drop)]
+struct Source<'a, R> {
+    place: &'a str,
+    all: u64,
+    reader: R,
+}
+
+/// Explains what a source has: telegrams if it begins with some, otherwise frames.
+fn explain_source<
+    'a,
+    H: Net + Files<File = File> + Clock + AllocGlobal,
+    R: Read + Drop,
+    W: Write,
+    E: Write,
+>(
+    host: &H,
+    looking: Looking<'_>,
+    source: Source<'a, R>,
+    output: &mut W,
+    errors: &mut E,
+) -> Result<(), Fault<'a>> {
+    let alloc = host.alloc();
+    let Source { place, all, reader } = source;
+    let mut reader = buffer_input(alloc, reader)?;
+    let receiver = match reader.fill_buf() {
+        Ok(front) => receiver_for(looking.keys, front),
+        Err(_) => None,
+    };
+    if let Some(receiver) = receiver {
+        let format = match looking.form.layout {
+            Layout::Json => OutputFormat::Json,
+            Layout::Short | Layout::Full => OutputFormat::Text,
+        };
+        let told = explain_telegrams(host, receiver, format, place, &mut reader, output, errors);
+        drop(reader);
+        return told;
+    }
+    let showing = if all < LEAST_SHOWN {
+        Showing::Nothing
+    } else {
+        looking.showing
+    };
+    let mut followed = Followed {
+        reader,
+        seen: BytesSeen { done: 0, all },
+        progress: Progress::new(host, alloc, errors, showing),
+    };
+    let told = explain_frames(alloc, looking, place, &mut followed, output);
+    drop(followed);
+    told
 }
 
 /// A reader whose progress is shown until its end.
@@ -154,20 +215,21 @@ impl<R: Read + Drop, H: Clock, E: Write> Read for Followed<'_, R, H, E> {
     }
 }
 
-/// Explains the frames on an input. The explanation of a line is written before the next line is waited for.
-fn explain_input<'a, H: AllocGlobal, O: Opener, R: Read + Drop, W: Write>(
-    host: &H,
-    looking: Looking,
-    opener: O,
+/// Explains the frames of a reader. The explanation of a line is written before the next line is waited for.
+fn explain_frames<'a, R: Read, W: Write>(
+    alloc: Global,
+    looking: Looking<'_>,
     place: &'a str,
-    input: R,
+    reader: &mut R,
     output: &mut W,
 ) -> Result<(), Fault<'a>> {
-    let alloc = host.alloc();
-    let mut reader = buffer_input(alloc, input)?;
     let form = looking.form;
     let mut painted = Painted::new(alloc, output, form.layout, looking.is_colored);
-    let explained = match explain_with(alloc, form, opener, &mut reader, &mut painted) {
+    let explained = match looking.keys {
+        None => explain_with(alloc, form, NoKeys, reader, &mut painted),
+        Some(stations) => explain_with(alloc, form, stations, reader, &mut painted),
+    };
+    let explained = match explained {
         Ok(()) => Ok(()),
         Err(ExplainFault::Memory) => Err(Fault::MEMORY),
         Err(ExplainFault::Input) => Err(Fault::Input(place)),
@@ -175,7 +237,6 @@ fn explain_input<'a, H: AllocGlobal, O: Opener, R: Read + Drop, W: Write>(
     };
     let told = result_with_flush(explained, painted.flush());
     drop(painted);
-    drop(reader);
     told
 }
 

@@ -47,7 +47,7 @@ fn fill<R: Read>(reader: &mut R, slot: &mut [u8; SLOT_BYTES]) -> io::Result<usiz
     Ok(count)
 }
 
-/// What the next slot shows; its number is given.
+/// Reads the next slot, which has this number.
 fn next_slot<R: Read>(reader: &mut R, index: u16) -> io::Result<Slot> {
     let mut slot = [0u8; SLOT_BYTES];
     let count = fill(reader, &mut slot)?;

@@ -1,4 +1,4 @@
-//! What a run shows while it lasts, and how it ended.
+//! The progress that a run shows, and its outcome.
 
 use crate::{Fault, OUTPUT, Terminals};
 use dlms_printing::Showing;

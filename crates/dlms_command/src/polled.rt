@@ -30,7 +30,7 @@ use std::random::RandomSource;
 use std::time::Clock;
 use std::{fs, io};
 
-/// Removes the lock of a readings file that a failed poll did not make, while it is held: whoever opened it meanwhile is refused.
+/// Removes the lock of a readings file that a failed poll did not make, while it is held: another program that opened it meanwhile is refused.
 fn remove_lock<H: Files<File = File> + AllocGlobal>(host: &H, file: &str) {
     if fs::metadata(host, file).is_ok() {
         return;

@@ -56,7 +56,7 @@ fn name_of(file: Option<&str>) -> &str {
     }
 }
 
-/// Whether an octet of a name is kept in the page, where it can end no attribute.
+/// Whether an octet of a name is kept in the page: it cannot end an attribute.
 fn is_kept(octet: u8) -> bool {
     octet.is_ascii_alphanumeric() || octet == b'.' || octet == b'_' || octet == b'-'
 }
