@@ -3,6 +3,7 @@
 use crate::association_text;
 use crate::foreign_text::write_foreign;
 use crate::frame_text::{write_came, write_information, write_no_llc};
+use crate::joined_text::{begun, take_block};
 use crate::opening::{Opening, write_initiate, write_verdict};
 use crate::service_text::{write_fault, write_joined, write_said, write_whole};
 use crate::units::{Units, write_units};
@@ -16,6 +17,7 @@ use dlms_dissect::{
 use dlms_frame::Frame;
 use dlms_names::apdu_name;
 use dlms_security::{NoKeys, Opener};
+use dlms_transfer::{Block, block_in};
 use std::alloc::{AllocError, Allocator};
 
 /// The number of octets before an APDU in a frame (IEC 62056-46, the LLC sublayer).
@@ -157,11 +159,51 @@ fn open_len<A: Allocator + Copy>(
 }
 
 /// The lines of an APDU, and with `hex`, how many of its octets may be shown beside them; of a ciphered one also those of the APDU in
-/// it, if keys open it.
+/// it, if keys open it, and of the last block of an APDU those of the APDU.
 pub fn explain_apdu<A: Allocator + Copy, O: Opener>(
     text: &mut Text<A>,
     alloc: A,
-    opening: &mut Opening<O>,
+    opening: &mut Opening<A, O>,
+    side: Option<Side>,
+    services: &mut Services<A>,
+    bytes: &[u8],
+) -> usize {
+    let shown = explain_one(text, alloc, opening, side, services, bytes);
+    match block_in(bytes) {
+        Some(block) if !block.octets.is_empty() => {
+            explain_block(text, alloc, opening, side, services, block);
+        }
+        _ => {}
+    }
+    shown
+}
+
+/// The lines of the APDU that a block completes, or why the block is not joined.
+fn explain_block<A: Allocator + Copy, O: Opener>(
+    text: &mut Text<A>,
+    alloc: A,
+    opening: &mut Opening<A, O>,
+    side: Option<Side>,
+    services: &mut Services<A>,
+    block: Block<'_>,
+) {
+    let Ok(mut blocks) = begun(alloc, opening.blocks.take()) else {
+        text.refuse();
+        return;
+    };
+    if let Some(apdu) = take_block(text, &mut blocks, side, block) {
+        text.go_in();
+        explain_one(text, alloc, opening, side, services, apdu);
+        text.go_out();
+    }
+    opening.blocks = Some(blocks);
+}
+
+/// The lines of an APDU that is in no blocks, and of a ciphered one also those of the APDU in it.
+fn explain_one<A: Allocator + Copy, O: Opener>(
+    text: &mut Text<A>,
+    alloc: A,
+    opening: &mut Opening<A, O>,
     side: Option<Side>,
     services: &mut Services<A>,
     bytes: &[u8],
@@ -180,7 +222,7 @@ pub fn explain_apdu<A: Allocator + Copy, O: Opener>(
 fn explain_inside<A: Allocator + Copy, O: Opener>(
     text: &mut Text<A>,
     alloc: A,
-    opening: &mut Opening<O>,
+    opening: &mut Opening<A, O>,
     side: Option<Side>,
     services: &mut Services<A>,
     bytes: &[u8],
@@ -207,7 +249,7 @@ fn without_tag<A: Allocator>(alloc: A, bytes: &[u8]) -> Result<Vec<u8, A>, Alloc
 fn explain_closed<A: Allocator + Copy, O: Opener>(
     text: &mut Text<A>,
     alloc: A,
-    opening: &mut Opening<O>,
+    opening: &mut Opening<A, O>,
     side: Option<Side>,
     services: &mut Services<A>,
     bytes: &[u8],
@@ -231,7 +273,7 @@ fn explain_closed<A: Allocator + Copy, O: Opener>(
 fn explain_plain<A: Allocator + Copy, O: Opener>(
     text: &mut Text<A>,
     alloc: A,
-    opening: &mut Opening<O>,
+    opening: &mut Opening<A, O>,
     side: Option<Side>,
     services: &mut Services<A>,
     bytes: &[u8],
@@ -253,7 +295,7 @@ fn explain_plain<A: Allocator + Copy, O: Opener>(
 fn explain_told<A: Allocator + Copy, O: Opener>(
     text: &mut Text<A>,
     alloc: A,
-    opening: &mut Opening<O>,
+    opening: &mut Opening<A, O>,
     side: Option<Side>,
     services: &mut Services<A>,
     bytes: &[u8],
@@ -308,7 +350,7 @@ fn explain_read<A: Allocator + Copy>(
 fn explain_whole<A: Allocator + Copy, O: Opener>(
     text: &mut Text<A>,
     alloc: A,
-    opening: &mut Opening<O>,
+    opening: &mut Opening<A, O>,
     side: Option<Side>,
     talk: &mut Talk<A>,
 ) -> usize {
@@ -330,7 +372,7 @@ fn explain_whole<A: Allocator + Copy, O: Opener>(
 fn explain_alone<A: Allocator + Copy, O: Opener>(
     text: &mut Text<A>,
     alloc: A,
-    opening: &mut Opening<O>,
+    opening: &mut Opening<A, O>,
     side: Option<Side>,
     raw: bool,
     info: &[u8],
@@ -380,7 +422,7 @@ fn is_another<A: Allocator>(talk: &Talk<A>, side: Option<Side>, frame: &Frame<'_
 fn explain_information<A: Allocator + Copy, O: Opener>(
     text: &mut Text<A>,
     alloc: A,
-    opening: &mut Opening<O>,
+    opening: &mut Opening<A, O>,
     side: Option<Side>,
     talk: &mut Talk<A>,
     numbers: Numbers,
@@ -425,7 +467,7 @@ fn next_number<A: Allocator>(segments: &Segments<A>) -> u8 {
 fn explain_segment<A: Allocator + Copy, O: Opener>(
     text: &mut Text<A>,
     alloc: A,
-    opening: &mut Opening<O>,
+    opening: &mut Opening<A, O>,
     side: Option<Side>,
     raw: bool,
     segments: &mut Segments<A>,
@@ -454,7 +496,7 @@ fn explain_segment<A: Allocator + Copy, O: Opener>(
 fn explain_unnumbered<A: Allocator + Copy, O: Opener>(
     text: &mut Text<A>,
     alloc: A,
-    opening: &mut Opening<O>,
+    opening: &mut Opening<A, O>,
     side: Option<Side>,
     talk: &mut Talk<A>,
     frame: &Frame<'_>,
@@ -493,7 +535,7 @@ fn explain_parameters<A: Allocator>(text: &mut Text<A>, info: &[u8]) -> usize {
 pub fn explain_content<A: Allocator + Copy, O: Opener>(
     text: &mut Text<A>,
     alloc: A,
-    opening: &mut Opening<O>,
+    opening: &mut Opening<A, O>,
     side: Option<Side>,
     talk: &mut Talk<A>,
     frame: &Frame<'_>,

@@ -242,14 +242,24 @@ fn write_verdict<A: Allocator>(text: &mut Text<A>, verdict: Verdict, inside: &st
     }
 }
 
-/// The service, the object and the rest of the full explanation, and those of a ciphered APDU that was opened.
+/// The service, the object and the rest of the full explanation, those of an APDU that is joined of blocks, and those of a ciphered
+/// APDU that was opened.
 fn write_rest<A: Allocator>(text: &mut Text<A>, full: &Text<A>, has_service: bool) {
     let (outside, opened) = full.parts();
-    write_lines(text, outside, has_service);
+    let joined = full.joined_in(outside);
+    match joined {
+        Some((block, len, lines)) => {
+            write_lines(text, block, has_service);
+            write_number(text, ",\"joined\":{\"length\":", len as u64);
+            write_lines(text, lines, true);
+        }
+        None => write_lines(text, outside, has_service),
+    }
     match opened {
         Some((verdict, inside)) => write_verdict(text, verdict, inside),
         None => {}
     }
+    text.push_if(joined.is_some(), "}");
 }
 
 /// The octets beside it, if there are some, and the end of an object.

@@ -16,6 +16,7 @@ mod fault;
 mod feed;
 mod foreign_text;
 mod frame_text;
+mod joined_text;
 mod json;
 mod layout;
 mod logged;

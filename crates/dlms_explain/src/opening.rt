@@ -1,6 +1,7 @@
 //! Ciphered APDUs, opened by keys, and explained below their own lines. Without keys nothing is said here.
 
 use crate::association_text::{write_initiate_request, write_initiate_response};
+use crate::joined_text::Kept;
 use crate::units::Units;
 use crate::words::{Text, Verdict, line};
 use arrayvec::ArrayVec;
@@ -26,15 +27,17 @@ const INITIATE_RESPONSE: u8 = 0x08;
 /// The most octets of an initiate request or response that is read: one with a dedicated key has 31.
 const MOST_INITIATE: usize = 64;
 
-/// What opens the ciphered APDUs, what the last association has said of its ends, and the scalers and units of the meter's objects.
-/// It has no `Debug` form, so that no key is printed by mistake.
+/// What opens the ciphered APDUs, what the last association has said of its ends, the blocks of their APDUs so far, and the scalers
+/// and units of the meter's objects. It has no `Debug` form, so that no key is printed by mistake.
 #[derive(Drop)]
-pub struct Opening<O> {
+pub struct Opening<A: Allocator, O> {
     opener: O,
     /// A frame's octets are shown beside it, up to the first that is reported by its length or not at all.
     pub hex: bool,
     /// The scalers and units that were read from the meter.
     pub units: Units,
+    /// The blocks of general block transfers so far.
+    pub blocks: Kept<A>,
     parties: Option<Parties>,
     client: Option<[u8; 8]>,
     meter: Option<[u8; 8]>,
@@ -61,13 +64,14 @@ fn dedicated_key_in(apdu: &[u8]) -> Option<[u8; 16]> {
     }
 }
 
-impl<O: Opener> Opening<O> {
+impl<A: Allocator, O: Opener> Opening<A, O> {
     /// Before the first APDU.
     pub fn new(opener: O, hex: bool) -> Self {
         Opening {
             opener,
             hex,
             units: Units::new(),
+            blocks: None,
             parties: None,
             client: None,
             meter: None,
@@ -75,8 +79,9 @@ impl<O: Opener> Opening<O> {
         }
     }
 
-    /// Nothing is known of an association.
+    /// Nothing is known of an association, and no block is kept.
     pub fn forget(&mut self) {
+        self.blocks = None;
         self.client = None;
         self.meter = None;
         self.dedicated_key = None;

@@ -27,7 +27,7 @@ pub struct View<A: Allocator, O> {
     /// The full explanation of a frame.
     pub full: Text<A>,
     /// What opens ciphered APDUs.
-    pub opening: Opening<O>,
+    pub opening: Opening<A, O>,
     /// Whether a frame of a meter came.
     pub has_answers: bool,
 }
@@ -164,16 +164,20 @@ fn blanks_len(line: &str) -> usize {
 }
 
 /// The service and the lines below it in full, except for the parts of a value; of a ciphered APDU that was opened those of the APDU
-/// in it, and what authenticates it.
+/// in it, and what authenticates it; of the last block of an APDU those of the APDU.
 fn write_rest<A: Allocator>(text: &mut Text<A>, full: &Text<A>) {
-    match full.parts() {
-        (_, Some((verdict, inside))) if !verdict.is_part && verdict.is_authenticated.is_some() => {
+    let (outside, opened) = full.parts();
+    let joined = full.joined_in(outside);
+    match (opened, joined) {
+        (Some((verdict, inside)), _) if !verdict.is_part && verdict.is_authenticated.is_some() => {
             write_lines(text, inside);
             text.push("; ");
             text.push(verdict.words);
         }
+        (None, Some((_, _, lines))) => write_lines(text, lines),
         _ => write_lines(text, full.as_str()),
     }
+    text.push_if(joined.is_some(), "; all blocks joined");
 }
 
 /// The first line and those below it, except for the parts of a value.

@@ -38,6 +38,17 @@ pub struct Text<A: Allocator> {
     depth: u8,
     /// Where the line of a verdict begins, and the verdict.
     verdict: Option<(usize, Verdict)>,
+    /// Where the line of an APDU begins that is joined of blocks, and how many octets the APDU has.
+    joined: Option<(usize, usize)>,
+}
+
+/// The words before the line that begins here, and those after it.
+fn around(words: &str, at: usize) -> Option<(&str, &str)> {
+    let (before, rest) = (words.get(..at)?, words.get(at..)?);
+    match rest.split_once("\n") {
+        Some((_, after)) => Some((before, after)),
+        None => Some((before, "")),
+    }
 }
 
 impl<A: Allocator> Text<A> {
@@ -61,6 +72,7 @@ impl<A: Allocator> Text<A> {
             is_typed: false,
             depth: 0,
             verdict: None,
+            joined: None,
         }
     }
 
@@ -71,18 +83,27 @@ impl<A: Allocator> Text<A> {
         self.verdict = Some((self.words.len(), verdict));
     }
 
+    /// The line of an APDU of this length that is joined of blocks begins here.
+    pub fn mark_joined(&mut self, len: usize)
+        ensures { self.new.is_refused ≡ self.old.is_refused }
+    {
+        self.joined = Some((self.words.len(), len));
+    }
+
     /// The lines that follow are of an APDU inside another one.
     pub fn go_in(&mut self)
         ensures { self.new.is_refused ≡ self.old.is_refused }
     {
-        self.depth = if self.is_flat { 0 } else { 2 };
+        if !self.is_flat {
+            self.depth = self.depth.saturating_add(2);
+        }
     }
 
     /// The lines that follow are not.
     pub fn go_out(&mut self)
         ensures { self.new.is_refused ≡ self.old.is_refused }
     {
-        self.depth = 0;
+        self.depth = self.depth.saturating_sub(2);
     }
 
     /// The words before a verdict, the verdict, and the lines after its own; all words if there is none.
@@ -91,13 +112,17 @@ impl<A: Allocator> Text<A> {
         let Some((at, verdict)) = self.verdict else {
             return (all, None);
         };
-        let (Some(before), Some(rest)) = (all.get(..at), all.get(at..)) else {
-            return (all, None);
-        };
-        match rest.split_once("\n") {
-            Some((_, inside)) => (before, Some((verdict, inside))),
-            None => (before, Some((verdict, ""))),
+        match around(all, at) {
+            Some((before, inside)) => (before, Some((verdict, inside))),
+            None => (all, None),
         }
+    }
+
+    /// Of words before a verdict: those before an APDU that is joined of blocks, its length, and its lines.
+    pub fn joined_in<'a>(&self, outside: &'a str) -> Option<(&'a str, usize, &'a str)> {
+        let (at, len) = self.joined?;
+        let (before, lines) = around(outside, at)?;
+        Some((before, len, lines))
     }
 
     /// Appends words.
@@ -152,6 +177,7 @@ impl<A: Allocator> Text<A> {
         self.is_refused = false;
         self.depth = 0;
         self.verdict = None;
+        self.joined = None;
     }
 
     /// A growth of something else was refused.

@@ -6,7 +6,8 @@ use Rattle.dlms_frame.specs.Stream.{Fits}
 use Rattle.dlms_telegram.specs.Telegram.{nothing}
 use Rattle.dlms_telegram.specs.declared.reader.Found.TheVariants.{Nothing}
 use Rattle.dlms_wrapper.specs.Message as wrapper
-use Rattle.dlms_listen.specs.Joined.{Blocked, Segmented}
+use Rattle.dlms_listen.specs.Joined.{Segmented}
+use Rattle.dlms_transfer.specs.Blocks.{Blocked}
 use Rattle.dlms_listen.specs.Line.{Joined, Line, Takes, apdu_at, apdu_in, with_frame, with_message}
 use Rattle.dlms_listen.specs.declared.carrier.Carrier.{Carrier}
 

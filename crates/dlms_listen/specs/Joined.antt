@@ -1,13 +1,16 @@
 -- The segments and blocks of an APDU, joined.
-use Rattle.std.specs.Prelude.{◌≡◌, ◌==◌, ◌||◌, ◌&&◌, ◌+◌, ◌%◌, not, nat_lt, nat_le, if◌then◌else◌, ℕ, Bool, true, false, List, [], ◌∷◌, ◌++◌, length, Option, Some, None, is_some}
-use Rattle.std.specs.Int.{w16, from_be_bytes}
+use Rattle.std.specs.Prelude.{◌≡◌, ◌==◌, ◌||◌, ◌&&◌, ◌+◌, ◌%◌, not, nat_lt, nat_le, if◌then◌else◌, ℕ, Bool, true, false, List, [], ◌∷◌, ◌++◌, length, Option, Some, None, is_some, option_map}
 use Rattle.dlms_frame.specs.Frame.{Parts}
 use Rattle.dlms_frame.specs.declared.frame.Address.{Address}
 use Rattle.dlms_frame.specs.declared.frame.Address.TheVariants.{One, Two, Four}
-use Rattle.dlms_listen.specs.declared.blocks.Block.{Block}
 use Rattle.dlms_listen.specs.declared.fault.Skip.{Skip}
 use Rattle.dlms_listen.specs.declared.fault.Skip.TheVariants as skip
 use Rattle.dlms_listen.specs.declared.segments.TheConstants.{MOST_JOINED}
+use Rattle.dlms_transfer.specs.Blocks as blocks
+use Rattle.dlms_transfer.specs.Blocks.{Blocked, Part}
+use Rattle.dlms_transfer.specs.declared.blocks.Outcome as transfer
+use Rattle.dlms_transfer.specs.declared.blocks.Step.{Step}
+use Rattle.dlms_transfer.specs.declared.blocks.Step.TheVariants.{More, Whole, NotNext, Long}
 
 -- whether an APDU is complete, and the cause of octets left out
 pub record Outcome : Type 0 where
@@ -82,83 +85,19 @@ segment_of kept frame =
 
 -- ---- blocks (IEC 62056-5-3, 9.3.5, general block transfer)
 
--- the octets of an APDU that came so far, and the number of its last block while further ones are to come, otherwise 0
-pub record Blocked : Type 0 where
-  pub octets : List ℕ
-  pub last : ℕ
+abbrev pub torn : Bool → Option Skip
+torn is_torn = if is_torn then Some skip.TornBlocks else None
 
--- the outcome of a block, and the blocks after it
-pub record Taken : Type 0 where
-  pub outcome : Outcome
-  pub kept : Blocked
+-- whether an APDU is complete with a block, and the cause of octets left out
+abbrev pub heard_as : Step → Bool → Outcome
+heard_as More is_torn = record { complete = false; skip = torn is_torn }
+heard_as Whole is_torn = record { complete = true; skip = torn is_torn }
+heard_as NotNext is_torn = record { complete = false; skip = Some skip.TornBlocks }
+heard_as Long is_torn = record { complete = false; skip = Some skip.Long }
 
-pub record Part : Type 0 where
-  pub is_last : Bool
-  pub number : ℕ
-  pub octets : List ℕ
+abbrev pub heard : transfer.Outcome → Outcome
+heard outcome = heard_as outcome.step outcome.is_torn
 
-abbrev pub part_of : Block → Part
-part_of b = record { is_last = b.is_last; number = b.number; octets = b.octets.now }
-
--- the octets of an octet-string that is all of these, after its length in A-XDR
-abbrev pub exactly : ℕ → List ℕ → Option (List ℕ)
-exactly count rest = if count == length rest then Some rest else None
-
-abbrev pub after_one : List ℕ → Option (List ℕ)
-after_one (a ∷ rest) = exactly a rest
-after_one _ = None
-
-abbrev pub after_two : List ℕ → Option (List ℕ)
-after_two (a ∷ b ∷ rest) = exactly (from_be_bytes w16 (a ∷ b ∷ [])) rest
-after_two _ = None
-
-abbrev pub string_in : List ℕ → Option (List ℕ)
-string_in (first ∷ rest) =
-    if nat_lt first 0x80 then exactly first rest
-    else if first == 0x81 then after_one rest
-    else if first == 0x82 then after_two rest
-    else None
-string_in _ = None
-
--- a block with this control octet and this number
-abbrev pub part_with : ℕ → ℕ → Option (List ℕ) → Option Part
-part_with control number None = None
-part_with control number (Some octets) = Some (record { is_last = nat_le 0x80 control; number = number; octets = octets })
-
--- the block that is all of an APDU: E0, control octet, number, acknowledged number, and its octets
-abbrev pub block_in : List ℕ → Option Part
-block_in (tag ∷ control ∷ a ∷ b ∷ c ∷ d ∷ rest) =
-    if tag == 0xE0 then part_with control (from_be_bytes w16 (a ∷ b ∷ [])) (string_in rest) else None
-block_in _ = None
-
-abbrev pub blocks_left_out : Skip → Taken
-blocks_left_out why = record {
-  outcome = record { complete = false; skip = Some why };
-  kept = record { octets = []; last = 0 };
-}
-
--- these octets are the APDU so far, and all of it with the last block; too many are left out
-abbrev pub blocks_so_far : Part → Option Skip → List ℕ → Taken
-blocks_so_far block before octets =
-    if nat_le (length octets) MOST_JOINED
-    then record {
-      outcome = record { complete = block.is_last; skip = before };
-      kept = record { octets = octets; last = if block.is_last then 0 else block.number };
-    }
-    else blocks_left_out skip.Long
-
--- what a block brings: the next one goes on, the one with number 1 begins another APDU
-abbrev pub block_of : Blocked → Part → Taken
-block_of kept block =
-    if (nat_lt 0 kept.last) && (block.number == kept.last + 1) then blocks_so_far block None (kept.octets ++ block.octets)
-    else if block.number == 1 then blocks_so_far block (if nat_lt 0 kept.last then Some skip.TornBlocks else None) block.octets
-    else blocks_left_out skip.TornBlocks
-
--- the outcome of an APDU that is a block, and the blocks after it
+-- the outcome of an APDU that is a block
 abbrev pub outcome_of : Blocked → Option Part → Option Outcome
-outcome_of kept None = None
-outcome_of kept (Some block) = Some (block_of kept block).outcome
-
-abbrev pub kept_after : Blocked → Option Part → Blocked
-kept_after kept None = kept
-kept_after kept (Some block) = (block_of kept block).kept
+outcome_of kept block = option_map heard (blocks.outcome_of kept block)

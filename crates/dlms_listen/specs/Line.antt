@@ -9,7 +9,8 @@ use Rattle.dlms_telegram.specs.declared.reader.Found as telegram_found
 use Rattle.dlms_wrapper.specs.Message as wrapper
 use Rattle.dlms_wrapper.specs.Stream as messages
 use Rattle.dlms_wrapper.specs.declared.fault.HeaderFault.{HeaderFault}
-use Rattle.dlms_listen.specs.Joined.{Blocked, Outcome, Segment, Segmented, block_in, kept_after, outcome_of, segment_of}
+use Rattle.dlms_transfer.specs.Blocks.{Blocked, block_in, kept_after}
+use Rattle.dlms_listen.specs.Joined.{Outcome, Segment, Segmented, outcome_of, segment_of}
 use Rattle.dlms_listen.specs.declared.carrier.Carrier.{Carrier}
 use Rattle.dlms_listen.specs.declared.carrier.Carrier.TheVariants.{Hdlc, Wrapper, Telegrams}
 use Rattle.dlms_listen.specs.declared.fault.Skip.{Skip}

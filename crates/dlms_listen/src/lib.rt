@@ -1,7 +1,6 @@
 //! What meters push: the octets of a line in, their notifications out.
 #![tactic(auto)]
 
-mod blocks;
 mod carrier;
 mod counters;
 mod entries;

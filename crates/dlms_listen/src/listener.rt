@@ -1,10 +1,10 @@
 //! The APDUs of a stream that comes in pieces.
 
 ghost use Rattle.std.specs.Prelude.{◌≡◌};
-ghost use Rattle.dlms_listen.specs.Joined.{Segmented, block_in, kept_after, outcome_of, segment_of};
+ghost use Rattle.dlms_transfer.specs.Blocks.{block_in, kept_after};
+ghost use Rattle.dlms_listen.specs.Joined.{heard, outcome_of, segment_of, torn};
 ghost use Rattle.dlms_listen.specs.Line.{found_after, skip_after, skip_of, with_segment};
 
-use crate::blocks::Blocks;
 use crate::carrier::{Carrier, carrier_of};
 use crate::fault::Skip;
 use crate::noise::Noise;
@@ -12,6 +12,7 @@ use crate::segments::Segments;
 use dlms_frame::{Deframer, Frame};
 use dlms_telegram as telegrams;
 use dlms_telegram::TelegramReader;
+use dlms_transfer::{Blocks, Outcome, Step};
 use dlms_wrapper::{MOST_APDU, MessageReader};
 use std::marker::Model;
 
@@ -56,6 +57,29 @@ impl Model for Listener {
     } };
 }
 
+/// The cause of octets left out, if earlier blocks were dropped.
+fn torn(is_torn: bool) -> Option<Skip>
+    ensures { result ≡ torn is_torn }
+{
+    if is_torn {
+        Some(Skip::TornBlocks)
+    } else {
+        None
+    }
+}
+
+/// Whether an APDU is complete with a block, and the cause of octets left out.
+fn heard(outcome: Outcome) -> (bool, Option<Skip>)
+    ensures { record { complete = result.0; skip = result.1 } ≡ heard outcome }
+{
+    match outcome.step {
+        Step::More => (false, torn(outcome.is_torn)),
+        Step::Whole => (true, torn(outcome.is_torn)),
+        Step::NotNext => (false, Some(Skip::TornBlocks)),
+        Step::Long => (false, Some(Skip::Long)),
+    }
+}
+
 /// Takes an APDU that is complete in a frame or in a message. Returns its place, which is the blocks if it is the last one of them,
 /// and the cause of octets left out: with it or `before` it.
 fn join_apdu(
@@ -70,8 +94,10 @@ fn join_apdu(
 {
     match blocks.offer(apdu) {
         None => (found, before),
-        Some((true, skip)) => (Found::Blocks, skip.or(before)),
-        Some((false, skip)) => (Found::Nothing, skip.or(before)),
+        Some(outcome) => match heard(outcome) {
+            (true, skip) => (Found::Blocks, skip.or(before)),
+            (false, skip) => (Found::Nothing, skip.or(before)),
+        },
     }
 }
 
