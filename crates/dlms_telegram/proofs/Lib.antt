@@ -1,3 +1,5 @@
 pub mod FeedLemmas
 pub mod CutLemmas
 pub mod PartLemmas
+pub mod CheckLemmas
+pub mod DivisionLemmas

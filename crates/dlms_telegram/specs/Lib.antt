@@ -1,4 +1,5 @@
 pub mod Check
+pub mod Register
 pub mod Telegram
 pub mod Line
 pub mod Cutting

@@ -1,5 +1,5 @@
 -- The values in the lines of a telegram (IEC 62056-21, 6.3.2, data block; the Dutch P1 companion standard, 6.4).
-use Rattle.std.specs.Prelude.{◌≡◌, ◌≢◌, ◌⊎◌, ℕ, ◌+◌, ◌-◌, ◌*◌, ◌<◌, ◌≤◌, ◌==◌, ◌&&◌, ◌||◌, nat_le, if◌then◌else◌, Bool, true, List, [], ◌∷◌, ◌++◌, length, EachIndex, slice_index}
+use Rattle.std.specs.Prelude.{◌≡◌, ◌≢◌, ◌⊎◌, ℕ, ◌+◌, ◌-◌, ◌*◌, ◌<◌, ◌==◌, ◌&&◌, nat_le, if◌then◌else◌, Bool, true, List, [], ◌∷◌, ◌++◌, length, EachIndex, slice_index}
 use Rattle.std.specs.Int.{w16, to_be_bytes}
 
 -- the octets before and after the first of a kind

@@ -1,9 +1,16 @@
 //! Laws of checks and of a line, whose octets may come in any pieces. `TelegramReader::feed` has its clause by the same definitions.
 
-ghost use Rattle.std.specs.Prelude.{◌≡◌, ◌∷◌, ◌++◌, [], List, ℕ};
-ghost use Rattle.dlms_telegram.specs.Check.{check_of};
+ghost use Rattle.std.specs.Prelude.{◌≡◌, ◌∷◌, ◌++◌, [], List, ℕ, Bool};
+ghost use Rattle.dlms_frame.specs.Check.{from_bits};
+ghost use Rattle.dlms_telegram.specs.Check.{IsRemainder, check_of, dividend_of};
 ghost use Rattle.dlms_telegram.specs.Cutting.{Call, Feeds, IsPart, completed_by, completed_of, octets_of};
 ghost use Rattle.dlms_telegram.specs.Telegram.{Kept, Takes, dropped};
+
+/// The check is what the division by x^16 + x^15 + x^2 + 1 leaves.
+pub fn division()
+    ensures some { (octets : List ℕ) → (left : List Bool) × IsRemainder (dividend_of octets) left }
+    ensures check { (octets : List ℕ) (left : List Bool) → IsRemainder (dividend_of octets) left → check_of octets ≡ from_bits left }
+{}
 
 /// The check of the digits from 1 to 9 is BB3D, as the catalogues of CRCs have it for this polynomial (CRC-16/ARC).
 pub fn known_check()
