@@ -43,6 +43,7 @@ impl Transfers {
 pub type Kept<A> = Option<Box<Transfers, A>>;
 
 /// The blocks so far, or before the first one.
+#[inline(never)]
 pub fn begun<A: Allocator>(alloc: A, kept: Kept<A>) -> Result<Box<Transfers, A>, AllocError> {
     match kept {
         Some(transfers) => Ok(transfers),

@@ -1,6 +1,7 @@
 -- The blocks of an APDU, joined (IEC 62056-5-3, 9.3.5, general block transfer).
-use Rattle.std.specs.Prelude.{◌==◌, ◌&&◌, ◌+◌, nat_lt, nat_le, if◌then◌else◌, ℕ, Bool, false, List, [], ◌∷◌, ◌++◌, length, Option, Some, None}
+use Rattle.std.specs.Prelude.{◌==◌, ◌&&◌, ◌+◌, nat_lt, nat_le, if◌then◌else◌, ℕ, Bool, false, List, [], ◌∷◌, ◌++◌, length, Option, Some, None, Result, Ok, Err}
 use Rattle.std.specs.Int.{w16, from_be_bytes}
+use Rattle.dlms_axdr.specs.Reading.{Fault, octets_at}
 use Rattle.dlms_transfer.specs.declared.block.Block.{Block}
 use Rattle.dlms_transfer.specs.declared.blocks.Outcome.{Outcome}
 use Rattle.dlms_transfer.specs.declared.blocks.Step.TheVariants.{More, Whole, NotNext, Long}
@@ -15,35 +16,21 @@ pub record Part : Type 0 where
 abbrev pub part_of : Block → Part
 part_of b = record { is_last = b.is_last; number = b.number; octets = b.octets.now }
 
--- the octets of an octet-string that is all of these, after its length in A-XDR
-abbrev pub exactly : ℕ → List ℕ → Option (List ℕ)
-exactly count rest = if count == length rest then Some rest else None
-
-abbrev pub after_one : List ℕ → Option (List ℕ)
-after_one (a ∷ rest) = exactly a rest
-after_one _ = None
-
-abbrev pub after_two : List ℕ → Option (List ℕ)
-after_two (a ∷ b ∷ rest) = exactly (from_be_bytes w16 (a ∷ b ∷ [])) rest
-after_two _ = None
-
-abbrev pub string_in : List ℕ → Option (List ℕ)
-string_in (first ∷ rest) =
-    if nat_lt first 0x80 then exactly first rest
-    else if first == 0x81 then after_one rest
-    else if first == 0x82 then after_two rest
-    else None
-string_in _ = None
+-- the octets of a string, if no octets follow it
+abbrev pub string_in : Result (List ℕ × List ℕ) Fault → Option (List ℕ)
+string_in (Ok (string, [])) = Some string
+string_in (Ok (string, a ∷ rest)) = None
+string_in (Err fault) = None
 
 -- a block with this control octet and this number
 abbrev pub part_with : ℕ → ℕ → Option (List ℕ) → Option Part
 part_with control number None = None
 part_with control number (Some octets) = Some (record { is_last = nat_le 0x80 control; number = number; octets = octets })
 
--- the block that is all of an APDU: E0, control octet, number, acknowledged number, and its octets
+-- the block that is all of an APDU: E0, control octet, number, acknowledged number, and its octets after their length in A-XDR
 abbrev pub block_in : List ℕ → Option Part
 block_in (tag ∷ control ∷ a ∷ b ∷ c ∷ d ∷ rest) =
-    if tag == 0xE0 then part_with control (from_be_bytes w16 (a ∷ b ∷ [])) (string_in rest) else None
+    if tag == 0xE0 then part_with control (from_be_bytes w16 (a ∷ b ∷ [])) (string_in (octets_at rest)) else None
 block_in _ = None
 
 -- the octets of an APDU so far, and the number of its last block while further ones are to come, otherwise 0
