@@ -80,7 +80,7 @@ module _ {P A : Type 0} {ghosts : Ghosts P} where
         subst (λ found. IsLeftFor found image) (ap events_in so.1) so.2;
   }
 
-  -- the statement about a recovery of what was loaded
+  -- the statement about a recovery of the loaded device
   pub recovers_from : (slots : List ℕ) (old : View) (opened : Result (Meter P A ghosts) (P × OpenFault)) → IsLoaded slots 62 old.seen → old.moment ≡ 0
       → ((events : List Event) → IsLeftFor events old.seen → DeviceFits old (Rests events))
       → ((before : StoreWorld) → DeviceFits old before → IfOk opened (λ meter. OpensAs before old meter.store))
@@ -94,7 +94,7 @@ module _ {P A : Type 0} {ghosts : Ghosts P} where
   recovers_from slots old (Err e) loaded first rests opens stands back exact size =
       inr (e.1, refl, unopened slots old e.1 loaded exact (λ events left. (back (Rests events) (rests events left)).cause) size)
 
-  -- the statement about a format of what was made
+  -- the statement about a format of the new device
   pub formats : (old : View) (opened : Result (Meter P A ghosts) (P × OpenFault)) → length old.seen ≡ 62
       → IfOk opened (λ meter. Stands meter first_world)
       → IfOk opened (λ meter. StoreFits meter.store (Runs [] []))
@@ -127,7 +127,7 @@ given_back {ghosts = ghosts} meter device code told settles = (
       settles (λ stopped. absurd (cc (sym fits.0.runs ∙ stopped))) (unrisen (view_of meter.store).faults (ghosts.view device).faults (told.0 done)) more (Runs settled pending) fits,
 )
 
--- ---- what is made of what was opened
+-- ---- the meter of an opened store
 
 module _ {X Y : Type 0} where
   -- what is so of each meter that was opened is so of the one that is kept

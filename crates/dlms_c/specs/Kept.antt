@@ -1,4 +1,4 @@
--- What a handle that may be empty owns: the box of its value, by a pointer. Assumes nothing: this is a definition.
+-- The memory that a handle owns unless it is empty: the box of its value, by a pointer. Assumes nothing: this is a definition.
 use Rattle.std.specs.Prelude.{Bool, true, false, Option, Some, None}
 use Rattle.libc.specs.Heap.{chunk}
 use Rattle.std_alloc.specs.Box.Ownership.{box_owns}

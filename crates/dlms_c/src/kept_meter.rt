@@ -30,7 +30,7 @@ pub struct KeptMeter {
     pub is_lost: bool,
 }
 
-/// A meter that was opened, before its first call; or the code of why there is none.
+/// A meter that was opened, before its first call; or the code that says why it was not opened.
 fn begun(
     opened: Result<Meter<RelayedPages<Global>, Global>, (RelayedPages<Global>, OpenFault)>,
     relay: Relay<Global>,

@@ -76,7 +76,7 @@ fn told(address: Address) -> FrameAddress
 }
 
 /// Finds the first complete frame in these octets: of those that end first, the one that begins earliest. Returns whether there is
-/// one; if there is none, the place is left as it was.
+/// one; without one, the place is left as it was.
 #[unsafe(no_mangle)]
 pub extern "C" fn dlms_next_frame(octets: &[u8], place: &mut FramePlace) -> bool
     ensures found { result ≡ true → (f : Parts) × IsFirst octets.now place.new f }

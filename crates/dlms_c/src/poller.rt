@@ -357,7 +357,7 @@ pub extern "C" fn dlms_poller_rows(
     DONE
 }
 
-/// The row with this index, counted from 0; nothing if there is none.
+/// The row with this index, counted from 0; nothing after the last one.
 #[unsafe(no_mangle)]
 pub extern "C" fn dlms_poller_row(
     alloc: Global,

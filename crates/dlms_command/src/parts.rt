@@ -66,7 +66,7 @@ fn size_of_file<H: Files<File = File>>(host: &H, file: &str) -> u64 {
 
 /// Polls the meter in parts that end `length` seconds after each other, the first so long after this second, up to the system's clock.
 /// The last part asks for all rows that are left. After a part without a new row the next one is twice as long, so that a gap of years,
-/// or a meter's clock that is years behind, does not take thousands of requests.
+/// or a meter whose clock is years late, does not take thousands of requests.
 fn poll_from<
     'a,
     H: Net + Files<File = File> + Clock + AllocGlobal + RandomSource,

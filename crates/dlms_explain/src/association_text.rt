@@ -137,7 +137,7 @@ pub fn write_initiate_request<A: Allocator>(text: &mut Text<A>, initiate: Option
     write_initiate(text, initiate);
 }
 
-/// The lines of what a response grants.
+/// The lines of the services and sizes that a response grants.
 fn write_granted<A: Allocator>(text: &mut Text<A>, conformance: Conformance, size: u16) {
     line(text, 2, "DLMS version 6");
     write_conformance(text, 2, conformance);

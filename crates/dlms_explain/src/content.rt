@@ -1,4 +1,4 @@
-//! The lines of what a frame contains: its APDU, or its parameters.
+//! The lines of a frame's content: its APDU, or its parameters.
 
 use crate::association_text;
 use crate::foreign_text::write_foreign;

@@ -81,7 +81,7 @@ fn write_octets<A: Allocator>(text: &mut Text<A>, bytes: &[u8]) {
     }
 }
 
-/// The date-time of an octet-string, or its octets if it is none.
+/// The date-time of an octet-string, or its octets if they are no date-time.
 pub fn write_string_time<A: Allocator>(text: &mut Text<A>, bytes: &[u8]) {
     match date_time_in(bytes) {
         Some(octets) => write_date_time(text, octets),

@@ -182,7 +182,7 @@ impl Run {
     }
 }
 
-/// The longest run of words of hexadecimal digits at the front, where a word begins.
+/// The longest run of words of hexadecimal digits at the front, at which a word begins.
 pub fn run_of(kind: Between, bytes: &[u8]) -> Option<Run> {
     let mut run = Run::new(group_of(bytes)?);
     for _ in 0..bytes.len() {
@@ -312,7 +312,7 @@ fn date_len(bytes: &[u8]) -> usize {
     }
 }
 
-/// The length of a date or a time of day at the front; 0 if there is none.
+/// The length of a date or a time of day at the front; 0 without one.
 pub fn stamp_len(bytes: &[u8]) -> usize {
     match date_len(bytes) {
         0 => time_len(bytes),
@@ -342,7 +342,7 @@ fn port_len(bytes: &[u8]) -> usize {
     }
 }
 
-/// The length of an IPv4 address at the front, with its port; 0 if there is none.
+/// The length of an IPv4 address at the front, with its port; 0 without one.
 fn address_len(bytes: &[u8]) -> usize {
     let mut len = 0usize;
     for _ in 0..3 {
@@ -362,7 +362,7 @@ fn address_len(bytes: &[u8]) -> usize {
     }
 }
 
-/// The length of seconds or milliseconds since 1970 at the front of a line, or of seconds with a fraction; 0 if there are none.
+/// The length of seconds or milliseconds since 1970 at the front of a line, or of seconds with a fraction; 0 without such a number.
 fn seconds_len(bytes: &[u8]) -> usize {
     let len = decimals_len(bytes);
     let fraction = match bytes.get(len..) {
@@ -378,8 +378,8 @@ fn seconds_len(bytes: &[u8]) -> usize {
     }
 }
 
-/// The length of a time or an address at the beginning of a word, after this octet, and perhaps at the front of a line; 0 if there
-/// is none. After a colon or a point there is none: octets may end so.
+/// The length of a time or an address at the beginning of a word, after this octet, and perhaps at the front of a line; 0 without
+/// one. After a colon or a point there is none, since octets may end with these.
 pub fn plain_len(before: Option<u8>, is_front: bool, word: &[u8]) -> usize {
     if matches!(before, Some(b':' | b'.')) {
         return 0;

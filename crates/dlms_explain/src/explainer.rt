@@ -48,7 +48,7 @@ const FLAG: u8 = 0x7e;
 /// The number of octets after the information of a frame: its check and its flag.
 const BEHIND: usize = 3;
 
-/// The octets of a frame to show beside it, of whose information this many may be: all, or its head with those.
+/// The octets of a frame to show beside it: all, or its head with as many octets of its information as may be shown.
 fn beside_of<'a>(octets: &'a [u8], info: usize, shown: usize) -> Beside<'a>
     ensures octets { result.octets.now ≡ beside octets.now info shown }
     ensures whole { result.is_whole ≡ nat_le info shown }
@@ -428,7 +428,7 @@ impl<A: Allocator + Copy, O: Opener> Explainer<A, O> {
     }
 
     /// Appends to the text the explanation of a line, which is given without its line feed: for bytes, of the frames that end in
-    /// them, with the bytes before each that are none; before them the words of a log, as its time. A line without bytes is passed
+    /// them, with the bytes before each that are in no frame; before them the words of a log, as its time. A line without bytes is passed
     /// on as it is. If memory is refused the text may end within a line.
     pub fn line(&mut self, line: &[u8], words: &mut String<A>) -> Result<(), AllocError> {
         let mut text = Text::behind(words);
@@ -436,7 +436,7 @@ impl<A: Allocator + Copy, O: Opener> Explainer<A, O> {
         text.end(words)
     }
 
-    /// Appends to the text the explanation of the bytes after the last frames, which are none. New stretches begin.
+    /// Appends to the text the explanation of the bytes after the last frames, which are in no frame. New stretches begin.
     pub fn end(&mut self, words: &mut String<A>) -> Result<(), AllocError> {
         let mut text = Text::behind(words);
         self.close(&mut text);

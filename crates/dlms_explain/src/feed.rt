@@ -9,7 +9,7 @@ use dlms_capture::is_capture;
 use dlms_security::Opener;
 use std::alloc::{AllocError, Allocator};
 
-/// What an input is, and its explanation.
+/// The kind of an input, and its explanation.
 #[derive(Drop)]
 enum Source<A: Allocator, O> {
     Lines(Session<A, O>),
@@ -68,7 +68,7 @@ impl<A: Allocator + Copy, O: Opener> Feed<A, O> {
         Feed { source }
     }
 
-    /// Takes octets of the input, and appends the explanation of what is then complete. The text is that of `explain` if each call but
+    /// Takes octets of the input, and appends the explanation of the lines or frames that are then complete. The text is that of `explain` if each call but
     /// the last has a multiple of 4,096 octets.
     pub fn take(&mut self, octets: &[u8]) {
         match &mut self.source {

@@ -161,7 +161,7 @@ fn check_words(right: bool) -> &'static str {
     if right { "right" } else { "wrong" }
 }
 
-/// What is wrong with bytes that have the form of a frame; nothing for others.
+/// The fault of bytes that have the form of a frame; nothing for others.
 fn write_damage<A: Allocator>(text: &mut Text<A>, damage: Option<Damage>) {
     match damage {
         None => {}

@@ -32,7 +32,7 @@ impl<A: Allocator + Copy, O: Opener> Messages<A, O> {
         }
     }
 
-    /// The messages, which begin here at first.
+    /// The messages, which begin with the first call.
     #[inline(never)]
     fn begun(&mut self) -> Result<&mut Wrapped<A, O>, AllocError> {
         if self.wrapped.is_none() {

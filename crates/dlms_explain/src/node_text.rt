@@ -88,7 +88,7 @@ fn delta_name(tag: u8) -> &'static str {
     }
 }
 
-/// A difference to an earlier value; digits if it is none.
+/// A difference to an earlier value; digits if it is no number.
 fn write_delta<A: Allocator>(text: &mut Text<A>, tag: u8, fields: &[u8]) {
     let is_typed = text.is_typed;
     write_label(text, if is_typed { delta_name(tag) } else { "delta " });

@@ -119,7 +119,7 @@ impl<A: Allocator, O: Opener> Opening<A, O> {
         }
     }
 
-    /// What is known of the association of a message from this side.
+    /// The titles and keys that are known of the association of a message from this side.
     fn known(&self, side: Option<Side>) -> Known {
         let (sender, receiver) = match side {
             Some(Side::Client) => (self.client, self.meter),
@@ -144,7 +144,7 @@ impl<A: Allocator, O: Opener> Opening<A, O> {
         opened
     }
 
-    /// What an APDU from this side contains that is ciphered, opened: the APDU itself, or the initiate request or response in one of an
+    /// The ciphered part of an APDU from this side, opened: the APDU itself, or the initiate request or response in one of an
     /// association, and which of the two it is.
     pub fn opened(
         &mut self,

@@ -106,7 +106,7 @@ impl<A: Allocator> Text<A> {
         self.depth = self.depth.saturating_sub(2);
     }
 
-    /// The words before a verdict, the verdict, and the lines after its own; all words if there is none.
+    /// The words before a verdict, the verdict, and the lines after its own; all words without one.
     pub fn parts(&self) -> (&str, Option<(Verdict, &str)>) {
         let all = self.words.as_str();
         let Some((at, verdict)) = self.verdict else {
@@ -252,7 +252,7 @@ pub fn number<A: Allocator>(text: &mut Text<A>, value: u64) {
     text.push(digits.format(value));
 }
 
-/// A line of a label, a number, and the words after it.
+/// A line of a label, a number, and the text after it.
 pub fn number_line<A: Allocator>(
     text: &mut Text<A>,
     depth: u8,

@@ -139,7 +139,7 @@ fn is_apdu<A: Allocator + Copy>(alloc: A, side: Option<Side>, octets: &[u8]) -> 
     }
 }
 
-/// Whether no APDU has this form. Memory that is refused is none.
+/// Whether no APDU has this form. If memory is refused, none has.
 fn is_unreadable<A: Allocator + Copy>(alloc: A, side: Option<Side>, octets: &[u8]) -> bool {
     match read_apdu(alloc, side, octets) {
         Ok(apdu) => {

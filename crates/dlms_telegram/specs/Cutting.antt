@@ -1,4 +1,4 @@
--- The calls of a reader, one after another, and what the octets of a line complete.
+-- The calls of a reader, one after another, and the telegrams that the octets of a line complete.
 use Rattle.std.specs.Prelude.{◌≡◌, if◌then◌else◌, ℕ, List, [], ◌∷◌, ◌++◌}
 use Rattle.std.specs.List.{flat_map}
 use Rattle.dlms_telegram.specs.Telegram.{Kept, Takes, after, is_found, nothing}

@@ -31,7 +31,7 @@ pub fn in_any_pieces()
     telegrams();
 }
 
-/// What a call completes is octets of the line: of those that were kept, and those that it took.
+/// The octets that a call completes are octets of the line: of those that were kept, and those that it took.
 pub fn octets_of_the_line()
     ensures { (old new : Kept) (taken : List ℕ) → Takes old taken new → IsPart ((dropped old).octets ++ taken) new.octets }
 {}

@@ -13,7 +13,7 @@ pub struct Number<'a> {
     pub mantissa: u64,
     /// How many of these are after the point.
     pub decimals: usize,
-    /// The unit as it is written, such as kWh; empty if there is none.
+    /// The unit as it is written, such as kWh; empty without one.
     pub unit: &'a [u8],
 }
 

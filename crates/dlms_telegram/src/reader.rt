@@ -30,7 +30,7 @@ const TITLE: u8 = 0x08;
 
 const TWO: u8 = 0x82;
 
-/// What the last call of a reader completed.
+/// The outcome of the last call of a reader.
 #[derive(Clone, Copy)]
 pub enum Found {
     Nothing,
@@ -116,7 +116,7 @@ fn end_of(number: u16, tail: &[u8]) -> Option<bool>
     }
 }
 
-/// What a telegram with such a tail is.
+/// The outcome of a telegram with such a tail.
 fn verdict(end: Option<bool>) -> Found
     ensures { result ≡ verdict end }
 {
@@ -244,7 +244,7 @@ impl TelegramReader {
         }
     }
 
-    /// What the telegram is that the next octet ends.
+    /// The outcome of the telegram that the next octet ends.
     fn verdict(&self) -> Found
         ensures { result ≡ verdict (end_of (check_of (take self.now.marked self.now.octets)) (drop self.now.marked self.now.octets)) }
     {
@@ -359,7 +359,7 @@ impl TelegramReader {
         self.take_all(octets)
     }
 
-    /// What the last call completed.
+    /// The outcome of the last call.
     pub fn found(&self) -> Found
         ensures { result ≡ self.now.found }
     {

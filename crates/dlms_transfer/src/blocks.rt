@@ -7,7 +7,7 @@ use std::marker::Model;
 /// The most octets of an APDU that is joined.
 pub const MOST_JOINED: usize = 4096;
 
-/// What came of a block.
+/// The outcome of a block.
 #[derive(Clone, Copy, Debug, PartialEq, Eq)]
 pub enum Step {
     /// It is kept, and further ones are to come.
@@ -20,7 +20,7 @@ pub enum Step {
     Long,
 }
 
-/// What came of a block, and of those before it.
+/// The outcome of a block, and of those before it.
 #[derive(Clone, Copy, Debug, PartialEq, Eq)]
 pub struct Outcome {
     pub step: Step,
@@ -118,7 +118,7 @@ impl Blocks {
         }
     }
 
-    /// Takes the block that is all of an APDU. Nothing changes if the APDU is none.
+    /// Takes the block that is all of an APDU. Nothing changes if the APDU is another.
     pub fn offer(&mut self, apdu: &[u8]) -> Option<Outcome>
         ensures outcome { result ≡ outcome_of self.old (block_in apdu.now) }
         ensures kept { self.new ≡ kept_after self.old (block_in apdu.now) }

@@ -1,4 +1,4 @@
--- What a handle that may be empty owns: the box of a value, by a pointer. Assumes nothing: this is a definition.
+-- The memory that a handle owns unless it is empty: the box of a value, by a pointer. Assumes nothing: this is a definition.
 use Rattle.std.specs.Prelude.{Bool, true, false}
 use Rattle.dlms_room.specs.Blocks.{block_rest}
 use Rattle.std_alloc.specs.Box.Ownership.{box_owns}

@@ -18,7 +18,7 @@ station_in octets = record {
 abbrev pub stations_in : List ℕ → List Station
 stations_in octets = map station_in (first_chunks 41 (length octets / 41) octets)
 
--- the stations of a keyring; without octets there is none
+-- the stations of a keyring; no octets are no stations
 abbrev pub keyring_in : List ℕ → Option (List Station)
 keyring_in [] = None
 keyring_in (octet ∷ rest) = Some (stations_in (octet ∷ rest))

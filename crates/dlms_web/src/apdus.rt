@@ -1,4 +1,4 @@
-//! What an APDU by itself says.
+//! The explanation of an APDU by itself.
 ghost use Rattle.std.specs.Prelude.{◌≡◌, ◌≢◌, ◌⊎◌, ◌<◌, ◌≤◌, ℕ, List, None, Some};
 ghost use Rattle.std.specs.Str.{IsUtf8};
 ghost use Rattle.dlms_dissect.specs.declared.parties.Side.TheVariants.{Client, Meter};

@@ -9,7 +9,7 @@ use dlms_plot::{Form, PlotFault, plot_readings};
 use dlms_room::{Room, RoomHeap};
 use std::str;
 
-/// The SVG of a readings file, or the code of why there is none.
+/// The SVG of a readings file, or the code that says why it cannot be drawn.
 fn plotted<'h>(heap: &'h RoomHeap, readings: &[u8]) -> Result<Vec<u8, &'h RoomHeap>, u32>
     ensures { (fault : ℕ) → result ≡ Err fault → (fault ≡ MEMORY) ⊎ (fault ≡ READINGS) }
 {

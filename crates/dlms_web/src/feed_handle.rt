@@ -8,7 +8,7 @@ use dlms_room::{RoomHeap, Spent};
 use std::marker::Model;
 use std::ptr::null_mut;
 
-/// What the page sees of it.
+/// The part of it that the page sees.
 pub struct Opaque;
 
 /// An explanation under way as the page keeps it, or none.

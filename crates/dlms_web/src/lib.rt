@@ -1,4 +1,4 @@
-//! What a web page calls: the frames of a log or a capture in words, an APDU in words, and readings as a curve. All memory is a room
+//! The calls of a web page: the frames of a log or a capture in words, an APDU in words, and readings as a curve. All memory is a room
 //! that the page lends for good.
 #![tactic(auto)]
 

@@ -1,5 +1,5 @@
 //! Prints the messages of faults that no case of the command line causes: those of a poll's other end, of a device, and out of memory.
-//! Each is printed as text, and as the line of JSON that stands for it.
+//! Each is printed as text, and as its line of JSON.
 #![tactic(auto)]
 
 use anyhow::Result;

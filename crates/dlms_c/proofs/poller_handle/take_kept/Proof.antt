@@ -1,4 +1,4 @@
--- `take_kept` hands the pointer back, where there is one. Assumes `Logic`.
+-- `take_kept` returns the pointer, if there is one. Assumes `Logic`.
 use Rattle.std.proofs.Common.{◌≡◌, List, [], ◌∷◌, ◌++◌, refl, sym, ap, ◌∙◌, subst, lit<}
 use mathlib.Core.Bool.{Bool, true, false}
 use mir.Val.{Val, vptr, vcons, vnil}
