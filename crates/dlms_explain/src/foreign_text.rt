@@ -127,14 +127,39 @@ fn write_results<A: Allocator>(text: &mut Text<A>, field: Field, bytes: &[u8]) {
     }
 }
 
+/// The line of the control octet of a block (IEC 62056-5-3, 9.3.5): whether it is the last one, whether more are sent before an answer,
+/// and the window of the sender.
+fn write_control<A: Allocator>(text: &mut Text<A>, bytes: &[u8]) {
+    let [control] = bytes else {
+        return;
+    };
+    let control = *control;
+    begin(text, 2);
+    text.push("block control ");
+    octet(text, control);
+    text.push_if(control / 128 == 1, ", the last one");
+    text.push_if(control / 64 % 2 == 1, ", streaming");
+    text.push(", window ");
+    number(text, u64::from(control % 64));
+    end(text);
+}
+
+/// The line of a number in a general block transfer: of the block, or, after that, of the last block that it acknowledges.
+fn write_block_number<A: Allocator>(text: &mut Text<A>, is_second: bool, bytes: &[u8]) {
+    let label = if is_second {
+        "acknowledged: block "
+    } else {
+        "block "
+    };
+    number_line(text, 2, label, number_of(bytes), "");
+}
+
 /// The lines of a field that is shown as it is.
 fn write_field<A: Allocator>(text: &mut Text<A>, field: Field, bytes: &[u8]) {
     match field {
         Field::LongInvoke => octets_line(text, 2, "long-invoke-id-and-priority ", bytes),
-        Field::Number | Field::ShortNumber => {
-            number_line(text, 2, "block ", number_of(bytes), "");
-        }
-        Field::Control => octets_line(text, 2, "block control ", bytes),
+        Field::Number => number_line(text, 2, "block ", number_of(bytes), ""),
+        Field::Control => write_control(text, bytes),
         Field::Title => octets_line(text, 2, "system title ", behind_length(bytes)),
         Field::Time => write_when(text, behind_length(bytes)),
         Field::OptionalTime => match bytes {
@@ -216,10 +241,16 @@ pub fn write_foreign<A: Allocator + Copy>(
         write_named(text, "of ", of);
     }
     let mut telling = foreign.telling(secrecy);
+    let mut is_second = false;
     for _ in 0..u64::MAX {
         let Some((level, item)) = telling.next() else {
             return;
         };
-        write_item(text, alloc, level, item);
+        if let Item::Plain(Field::ShortNumber, bytes) = item {
+            write_block_number(text, is_second, bytes);
+            is_second = true;
+        } else {
+            write_item(text, alloc, level, item);
+        }
     }
 }
