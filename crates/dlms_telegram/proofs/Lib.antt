@@ -3,3 +3,4 @@ pub mod CutLemmas
 pub mod PartLemmas
 pub mod CheckLemmas
 pub mod DivisionLemmas
+pub mod SplitLemmas

@@ -35,6 +35,10 @@ pub record IsTelegram (octets text : List ℕ) (checked : Bool) : Type 0 where
   pub start : get_or text 0 0 ≡ 0x2F
   pub end_is : end_of (check_of (take (length text + 1) octets)) tail ≡ Some checked
 
+-- no telegram is all of these octets
+abbrev pub IsNone : List ℕ → Type 0
+IsNone octets = (text : List ℕ) (checked : Bool) → IsTelegram octets text checked → ⊥
+
 -- ---- the telegrams of a line, in clear or ciphered
 
 -- The octets of a telegram that has begun and not ended, of the one that the last octet completed, or none; the number of those up to

@@ -1,7 +1,7 @@
 //! The telegrams of a line that comes in pieces.
 
-ghost use Rattle.std.specs.Prelude.{◌≡◌, ◌<◌, IfSome};
-ghost use Rattle.dlms_telegram.specs.Telegram.{IsTelegram, begins, end_of, is_digit_of, is_found, is_spelled, is_text, verdict};
+ghost use Rattle.std.specs.Prelude.{◌≡◌, ◌<◌, IfNone, IfSome};
+ghost use Rattle.dlms_telegram.specs.Telegram.{IsNone, IsTelegram, begins, end_of, is_digit_of, is_found, is_spelled, is_text, verdict};
 
 use crate::division::check;
 use crate::lines::{line_in, split_at};
@@ -152,7 +152,8 @@ fn is_found(found: Found) -> bool
 
 /// The telegram that is all of these octets, from its first to its check, or to its mark if it has no check.
 pub fn read_telegram(octets: &[u8]) -> Option<Telegram<'_>>
-    ensures { IfSome result (λ t. IsTelegram octets.now t.text.now t.is_checked) }
+    ensures some { IfSome result (λ t. IsTelegram octets.now t.text.now t.is_checked) }
+    ensures none { IfNone result (IsNone octets.now) }
 {
     let (text, tail) = split_at(octets, MARK)?;
     if text.is_empty() || text[0] != START {
