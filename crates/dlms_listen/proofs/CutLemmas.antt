@@ -1,11 +1,11 @@
 -- The calls of a listener give the APDUs of the line's frames.
-use Rattle.std.proofs.Common.{◌≡◌, ℕ, List, [], ◌∷◌, ◌++◌, refl, sym, ap, subst, ◌∙◌, Option, Some, None, option_to_list}
+use Rattle.std.proofs.Common.{◌≡◌, ℕ, List, [], ◌∷◌, ◌++◌, refl, ap, subst, ◌∙◌, Option, Some, None, option_to_list}
 use Rattle.dlms_frame.specs.Frame.{Parts}
 use Rattle.dlms_frame.specs.Stream as frames
 use Rattle.dlms_wrapper.specs.Message as wrapper
 use Rattle.dlms_listen.specs.Joined.{Segmented}
 use Rattle.dlms_transfer.specs.Blocks.{Blocked}
-use Rattle.dlms_listen.specs.Line.{Joined, Line, Takes, TakesBy, TakesFrames, apdu_in, carrier_in, joined_in, with_frame}
+use Rattle.dlms_listen.specs.Line.{Joined, Line, TakesBy, TakesFrames, apdu_in, carrier_in, joined_in, with_frame}
 use Rattle.dlms_listen.specs.Cutting.{Call, Feeds, apdus_of, apdus_of_frames, found_in, octets_of}
 use Rattle.dlms_listen.specs.declared.carrier.Carrier.TheVariants.{Hdlc}
 

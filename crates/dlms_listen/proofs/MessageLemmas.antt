@@ -1,12 +1,12 @@
 -- The calls of a listener give the APDUs of the line's messages.
-use Rattle.std.proofs.Common.{◌≡◌, ◌⊎◌, ℕ, ◌≤◌, List, [], ◌∷◌, ◌++◌, length, arith, refl, sym, ap, subst, ◌∙◌, inl, inr, append_assoc, Option, Some, None, option_to_list, All}
+use Rattle.std.proofs.Common.{◌≡◌, ◌⊎◌, ℕ, List, [], ◌∷◌, ◌++◌, length, arith, refl, sym, ap, subst, ◌∙◌, inl, inr, append_assoc, Option, Some, None, option_to_list, All}
 use Rattle.std.proofs.lemmas.List.{append-nil}
 use Rattle.std.proofs.lemmas.List.Elements.{All-cons, All-nil}
 use Rattle.dlms_wrapper.specs.Message.{IsMessage, Parts, message_bytes}
 use Rattle.dlms_wrapper.specs.Stream as messages
 use Rattle.dlms_listen.specs.Joined.{Segmented}
 use Rattle.dlms_transfer.specs.Blocks.{Blocked}
-use Rattle.dlms_listen.specs.Line.{Line, Takes, TakesBy, TakesMessages, apdu_at, apdu_in, carrier_in, with_message}
+use Rattle.dlms_listen.specs.Line.{Line, TakesBy, TakesMessages, apdu_at, carrier_in, with_message}
 use Rattle.dlms_listen.specs.Cutting.{Call, Feeds, apdus_of, apdus_of_messages, octets_of}
 use Rattle.dlms_listen.specs.declared.carrier.Carrier.TheVariants.{Wrapper}
 use Rattle.dlms_listen.specs.declared.listener.Found.{Found}

@@ -1,5 +1,5 @@
 -- The segments and blocks of an APDU, joined.
-use Rattle.std.specs.Prelude.{◌≡◌, ◌==◌, ◌||◌, ◌&&◌, ◌+◌, ◌%◌, not, nat_lt, nat_le, if◌then◌else◌, ℕ, Bool, true, false, List, [], ◌∷◌, ◌++◌, length, Option, Some, None, is_some, option_map}
+use Rattle.std.specs.Prelude.{◌==◌, ◌||◌, ◌&&◌, ◌%◌, not, nat_le, if◌then◌else◌, ℕ, Bool, true, false, List, [], ◌∷◌, ◌++◌, length, Option, Some, None, is_some, option_map}
 use Rattle.dlms_frame.specs.Frame.{Parts}
 use Rattle.dlms_frame.specs.declared.frame.Address.{Address}
 use Rattle.dlms_frame.specs.declared.frame.Address.TheVariants.{One, Two, Four}

@@ -1,5 +1,5 @@
 -- The steps of a listener over the octets of a line.
-use Rattle.std.specs.Prelude.{◌≡◌, ◌⊎◌, ◌==◌, ◌||◌, if◌then◌else◌, ℕ, Bool, true, false, List, [], ◌∷◌, ◌++◌, Option, Some, None, IfSome, IfNone, option_map}
+use Rattle.std.specs.Prelude.{◌≡◌, ◌⊎◌, ◌==◌, ◌||◌, if◌then◌else◌, ℕ, List, [], ◌∷◌, ◌++◌, Option, Some, None, IfSome, IfNone, option_map}
 use Rattle.std.specs.Option.{option_or}
 use Rattle.dlms_frame.specs.Frame.{Parts}
 use Rattle.dlms_frame.specs.Stream as frames

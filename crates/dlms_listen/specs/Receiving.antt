@@ -1,5 +1,5 @@
 -- Which notifications are taken, in clear or under keys, and why others are refused: the first of these causes.
-use Rattle.std.specs.Prelude.{◌≡◌, ◌⊎◌, ◌==◌, ◌||◌, ◌++◌, if◌then◌else◌, ℕ, Bool, true, false, List, [], ◌∷◌, Option, Some, None, IsSome, length, Result, Ok, Err}
+use Rattle.std.specs.Prelude.{◌≡◌, ◌⊎◌, ◌==◌, ◌||◌, if◌then◌else◌, ℕ, Bool, true, false, List, [], ◌∷◌, Option, Some, None, IsSome, length, Result, Ok, Err}
 use Rattle.dlms_keys.specs.declared.station.Station.{Station}
 use Rattle.dlms_keys.specs.Keyring.{titled_station}
 use Rattle.dlms_security.specs.Form.{kind_of}

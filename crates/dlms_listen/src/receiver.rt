@@ -5,9 +5,12 @@ ghost use Rattle.dlms_listen.specs.Sender.{Accepts};
 ghost use Rattle.dlms_listen.specs.Notification.{IsNotification, said};
 ghost use Rattle.std.specs.Prelude.{◌++◌, IfSome, take};
 ghost use Rattle.dlms_cipher.specs.Keys.{authentication_key, encryption_key};
+ghost use Rattle.dlms_keys.specs.Keyring.{titled_station};
 ghost use Rattle.dlms_cipher.specs.Dlms.{cipher_of, sealed_tag};
+ghost use Rattle.dlms_listen.specs.declared.fault.Refusal.TheVariants as refusal;
+ghost use Rattle.dlms_telegram.specs.Telegram as telegrams;
 ghost use Rattle.dlms_telegram.specs.Telegram.{IsTelegram};
-ghost use Rattle.dlms_listen.specs.Unsealing.{AreKeys, Decrypts, IsSealOf, OpensTelegram, Unseals};
+ghost use Rattle.dlms_listen.specs.Unsealing.{Decrypts, IsSealOf, IsUndecrypted, IsUnopened, IsUnopenedBy, IsUnopenedWith, OpensBy, Unseals, sealed_in};
 ghost use Rattle.dlms_listen.specs.Receiving.{IsNone, IsStale, has_tag, key_for, opened, opened_by, opened_with, refusal_of};
 
 use crate::counters::{Senders, Unaccepted};
@@ -149,7 +152,8 @@ fn read_plain(plain: &ArrayVec<u8, MOST_APDU>) -> Result<Notification<'_>, Refus
 
 /// Reads the telegram that is all of these octets.
 fn telegram_in(octets: &[u8]) -> Result<Telegram<'_>, Refusal>
-    ensures { IfOk result (λ t. IsTelegram octets.now t.text.now t.is_checked) }
+    ensures ok { IfOk result (λ t. IsTelegram octets.now t.text.now t.is_checked) }
+    ensures err { IfErr result (λ why. (why ≡ refusal.Malformed) × telegrams.IsNone octets.now) }
 {
     match read_telegram(octets) {
         Some(telegram) => Ok(telegram),
@@ -159,7 +163,8 @@ fn telegram_in(octets: &[u8]) -> Result<Telegram<'_>, Refusal>
 
 /// The ciphertext and the tag of a ciphered telegram, after its head of 18 octets.
 fn sealed_parts(octets: &[u8]) -> Option<(&[u8], [u8; TAG])>
-    ensures { IfSome result (λ parts. octets.now ≡ take 18 octets.now ++ (parts.0.now ++ parts.1)) }
+    ensures parts { IfSome result (λ parts. octets.now ≡ take 18 octets.now ++ (parts.0.now ++ parts.1)) }
+    ensures exact { option_map (λ parts. (parts.0.now, parts.1)) result ≡ sealed_in octets.now }
 {
     if octets.len() < HEAD + TAG {
         return None;
@@ -169,19 +174,6 @@ fn sealed_parts(octets: &[u8]) -> Option<(&[u8], [u8; TAG])>
     let mut tag = [0; TAG];
     tag.copy_from_slice(end);
     Some((text, tag))
-}
-
-/// The keys of the station with this title.
-fn keys_of(stations: &Stations, title: [u8; 8]) -> Result<Keys, Refusal>
-    ensures { IfOk result (λ keys. AreKeys stations.now.stations.items title keys) }
-{
-    let Some(station) = stations.station_of(title) else {
-        return Err(Refusal::Foreign(title));
-    };
-    match station.authentication_key {
-        Some(key) => Ok(Keys::new(station.encryption_key, key)),
-        None => Err(Refusal::NoAuthenticationKey(title)),
-    }
 }
 
 /// Decrypts a ciphertext if the tag is its tag.
@@ -195,6 +187,7 @@ fn decrypt(
     ensures tag { IfOk result (λ _. tag.now
         ≡ sealed_tag (encryption_key keys.now) (authentication_key keys.now) seal.title seal.counter text.now) }
     ensures plain { IfOk result (λ _. plain.new.items ≡ cipher_of (encryption_key keys.now) seal.title seal.counter text.now) }
+    ensures err { IfErr result (IsUndecrypted (encryption_key keys.now) (authentication_key keys.now) seal (Some (text.now, tag.now))) }
 {
     plain.clear();
     if plain.try_extend_from_slice(text).is_err() {
@@ -213,28 +206,37 @@ fn decrypt_parts(
     octets: &[u8],
     plain: &mut ArrayVec<u8, MOST_TELEGRAM>,
 ) -> Result<(), UnprotectFault>
-    ensures { IfOk result (λ _. Decrypts (encryption_key keys.now) (authentication_key keys.now) seal octets.now plain.new.items) }
+    ensures ok { IfOk result (λ _. Decrypts (encryption_key keys.now) (authentication_key keys.now) seal octets.now plain.new.items) }
+    ensures err { IfErr result (IsUndecrypted (encryption_key keys.now) (authentication_key keys.now) seal (sealed_in octets.now)) }
 {
     let (text, tag) = sealed_parts(octets).ok_or(UnprotectFault::Short)?;
     decrypt(keys, seal, text, &tag, plain)
 }
 
-/// The seal of a ciphered telegram with this header, which must be authenticated and encrypted.
-fn seal_of(header: Header) -> Result<Seal, Refusal>
-    ensures { IfOk result (IsSealOf header) }
+/// Opens a ciphered telegram of this station, if the station is known.
+fn open_of(
+    station: Option<Station>,
+    seal: Seal,
+    octets: &[u8],
+    plain: &mut ArrayVec<u8, MOST_TELEGRAM>,
+) -> Result<(), Refusal>
+    ensures ok { IfOk result (λ _. OpensBy station octets.now seal plain.new.items) }
+    ensures err { IfErr result (IsUnopenedBy octets.now seal station) }
 {
-    let title = header.title.ok_or(Refusal::NoTitle)?;
-    let Some(Policy::AuthenticatedEncrypted) = header.policy else {
-        return Err(Refusal::Closed(title, UnprotectFault::AnotherControl));
+    let Some(station) = station else {
+        return Err(Refusal::Foreign(seal.title));
     };
-    Ok(Seal {
-        title,
-        counter: header.counter,
-        is_authenticated: true,
-    })
+    let Some(key) = station.authentication_key else {
+        return Err(Refusal::NoAuthenticationKey(seal.title));
+    };
+    let keys = Keys::new(station.encryption_key, key);
+    match decrypt_parts(&keys, seal, octets, plain) {
+        Ok(()) => Ok(()),
+        Err(fault) => Err(Refusal::Closed(seal.title, fault)),
+    }
 }
 
-/// Opens a ciphered telegram with this header.
+/// Opens a ciphered telegram with this header, which must be authenticated and encrypted.
 fn open_sealed(
     stations: &Stations,
     header: Header,
@@ -242,13 +244,23 @@ fn open_sealed(
     plain: &mut ArrayVec<u8, MOST_TELEGRAM>,
 ) -> Result<Seal, Refusal>
     ensures seal { IfOk result (IsSealOf header) }
-    ensures opens { IfOk result (λ seal. OpensTelegram stations.now.stations.items octets.now seal plain.new.items) }
+    ensures opens { IfOk result (λ seal. OpensBy (titled_station seal.title stations.now.stations.items) octets.now seal plain.new.items) }
+    ensures err { IfErr result (IsUnopenedWith stations.now.stations.items octets.now (Some header)) }
 {
-    let seal = seal_of(header)?;
-    let keys = keys_of(stations, seal.title)?;
-    match decrypt_parts(&keys, seal, octets, plain) {
+    let Some(title) = header.title else {
+        return Err(Refusal::NoTitle);
+    };
+    let Some(Policy::AuthenticatedEncrypted) = header.policy else {
+        return Err(Refusal::Closed(title, UnprotectFault::AnotherControl));
+    };
+    let seal = Seal {
+        title,
+        counter: header.counter,
+        is_authenticated: true,
+    };
+    match open_of(stations.station_of(title), seal, octets, plain) {
         Ok(()) => Ok(seal),
-        Err(fault) => Err(Refusal::Closed(seal.title, fault)),
+        Err(why) => Err(why),
     }
 }
 
@@ -258,7 +270,8 @@ fn open_telegram(
     octets: &[u8],
     plain: &mut ArrayVec<u8, MOST_TELEGRAM>,
 ) -> Result<Seal, Refusal>
-    ensures { IfOk result (λ seal. Unseals (option_map (λ k. k.now.stations.items) keys.entry) octets.now seal plain.new.items) }
+    ensures ok { IfOk result (λ seal. Unseals (option_map (λ k. k.now.stations.items) keys.entry) octets.now seal plain.new.items) }
+    ensures err { IfErr result (IsUnopened (option_map (λ k. k.now.stations.items) keys.entry) octets.now) }
 {
     let Some(stations) = keys else {
         return Err(Refusal::NoKeys);
@@ -290,7 +303,7 @@ fn accept(senders: &mut Senders, seal: Seal) -> Result<(), Refusal>
 impl<'k> Receiver<'k> {
     ghost use Rattle.std.specs.Prelude.{◌≡◌, [], IfErr, IfOk, OnErr, option_map};
     ghost use Rattle.dlms_listen.specs.Receiving.{AcceptsSeal, ContainsNotification, IsRefused};
-    ghost use Rattle.dlms_listen.specs.Unsealing.{ContainsTelegram};
+    ghost use Rattle.dlms_listen.specs.Unsealing.{ContainsTelegram, IsRefusedTelegram};
 
     /// Before the first notification.
     pub fn new(keys: Option<&'k Stations>) -> Self
@@ -345,6 +358,8 @@ impl<'k> Receiver<'k> {
         ensures ok { let keys = option_map (λ k. k.now.stations.items) self.old.keys in
             IfOk result (λ r. ContainsTelegram keys octets.now r.content r.seal) }
         ensures counter { IfOk result (λ r. AcceptsSeal r.seal self.old.senders.all.items self.new.senders.all.items) }
+        ensures err { let keys = option_map (λ k. k.now.stations.items) self.old.keys in
+            IfErr result (IsRefusedTelegram keys self.old.senders.all.items octets.now) }
         ensures same { OnErr result (self.new ≡ self.old) }
     {
         if kind_of(octets).is_none() {

@@ -1,4 +1,4 @@
-use Rattle.std.proofs.Common.{◌≡◌, sym, subst, ap, ◌∙◌}
+use Rattle.std.proofs.Common.{sym, subst, ap, ◌∙◌}
 use Rattle.dlms_frame.specs.Stream.{FramesOf}
 use Rattle.dlms_listen.specs.Cutting.{apdus_of_frames, octets_of}
 use Rattle.dlms_listen.proofs.laws.frames_in_any_pieces.Goals as goal

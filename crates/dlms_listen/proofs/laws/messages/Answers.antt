@@ -1,5 +1,5 @@
-use Rattle.std.proofs.Common.{◌≡◌, ◌++◌, [], List, ℕ, refl, sym, ap, subst, ◌∙◌, inl, arith}
-use Rattle.dlms_wrapper.specs.Stream.{HasNoMessage, Splits, stream_of}
+use Rattle.std.proofs.Common.{◌≡◌, ◌++◌, [], refl, sym, ap, subst, ◌∙◌, inl, arith}
+use Rattle.dlms_wrapper.specs.Stream.{HasNoMessage}
 use Rattle.dlms_listen.specs.Cutting.{octets_of}
 use Rattle.dlms_listen.proofs.MessageLemmas.{message_calls, nothing_begins}
 use Rattle.dlms_listen.proofs.laws.messages.Goals as goal

@@ -1,4 +1,4 @@
-use Rattle.std.proofs.Common.{◌≡◌, sym, subst, ap, ◌∙◌}
+use Rattle.std.proofs.Common.{sym, subst, ap, ◌∙◌}
 use Rattle.dlms_wrapper.specs.Stream.{Splits}
 use Rattle.dlms_listen.specs.Cutting.{apdus_of_messages, octets_of}
 use Rattle.dlms_listen.proofs.laws.messages_in_any_pieces.Goals as goal

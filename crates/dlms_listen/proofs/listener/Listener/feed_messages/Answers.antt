@@ -1,4 +1,4 @@
-use Rattle.std.proofs.Common.{rules, ◌≡◌, None, Some, [], length, take, drop, ℕ, List, refl, sym, ap, subst, ◌∙◌, inl, inr, arith}
+use Rattle.std.proofs.Common.{rules, None, Some, [], length, take, drop, refl, sym, ap, subst, ◌∙◌, inl, arith}
 use Rattle.std.proofs.lemmas.List.{append-nil, take-append-drop, take_all}
 use Rattle.dlms_listen.specs.Line.{Line, TakesMessages}
 use Rattle.dlms_listen.specs.declared.fault.Skip.TheVariants as skip
