@@ -46,7 +46,7 @@ divides (suc n) (true ∷ rest) len =
       equation = ap (λ t. true ∷ t) (sym (added_twice generator rest long) ∙ ap (λ t. added generator t) h.equation ∙ sym (taken_back h.quotient (remainder n (added generator rest)) h.degree));
     }
 
--- what is left of a product and a low part is the low part
+-- a product of the divisor and a part of lower degree leave that part
 left_of : (q left : List Bool) → length left ≡ 16 → remainder (length q) (added (times_divisor q) (replicate (length q) false ++ left)) ≡ left
 left_of [] left len = zeros-added 16 left (omega arith)
 left_of (false ∷ q) left len = left_of q left len
