@@ -1,6 +1,6 @@
 -- Which telegrams are taken, in clear, or in general-glo-ciphering as the Luxembourg port sends them, authenticated and encrypted; and
 -- why others are refused: the first of these causes.
-use Rattle.std.specs.Prelude.{◌≡◌, ◌⊎◌, ◌-◌, ◌<◌, nat_lt, if◌then◌else◌, ℕ, Bool, true, List, ◌++◌, length, take, drop, Option, Some, None, IsSome}
+use Rattle.std.specs.Prelude.{◌≡◌, ◌⊎◌, ◌-◌, ◌<◌, ◌≤◌, nat_lt, if◌then◌else◌, ℕ, Bool, true, List, ◌++◌, length, take, drop, Option, Some, None, IsSome}
 use Rattle.dlms_cipher.specs.Dlms.{cipher_of, sealed_tag}
 use Rattle.dlms_keys.specs.declared.station.Station.{Station}
 use Rattle.dlms_keys.specs.Keyring.{titled_station}
@@ -78,7 +78,8 @@ abbrev pub IsUndecrypted : (encryption authentication : List ℕ) → Seal → O
 IsUndecrypted encryption authentication seal None why = why ≡ Short
 IsUndecrypted encryption authentication seal (Some parts) why =
     ((why ≡ Long) × (MOST_TELEGRAM < length parts.0))
-    ⊎ ((why ≡ WrongTag) × ¬ (parts.1 ≡ sealed_tag encryption authentication seal.title seal.counter parts.0))
+    ⊎ ((why ≡ WrongTag) × (length parts.0 ≤ MOST_TELEGRAM)
+    × ¬ (parts.1 ≡ sealed_tag encryption authentication seal.title seal.counter parts.0))
 
 abbrev pub IsUnopenedUnder : (octets encryption : List ℕ) → Seal → Option (List ℕ) → Refusal → Type 0
 IsUnopenedUnder octets encryption seal None why = why ≡ refusal.NoAuthenticationKey seal.title
