@@ -219,7 +219,7 @@ pub fn next_pair(run: &[u8]) -> Option<(u8, &[u8])> {
 
 /// The octets of a run of pairs.
 pub fn octets_of<A: Allocator>(alloc: A, run: &[u8]) -> Result<Vec<u8, A>, AllocError> {
-    let mut octets = Vec::new(alloc);
+    let mut octets = Vec::with_capacity(alloc, run.len() / 2)?;
     let mut rest = run;
     for _ in 0..run.len() {
         let Some((octet, behind)) = next_pair(rest) else {

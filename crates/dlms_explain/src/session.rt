@@ -10,7 +10,6 @@ use crate::layout::Layout;
 use crate::words::Text;
 use dlms_capture::is_capture;
 use dlms_security::{NoKeys, Opener};
-use memchr::memchr;
 use std::alloc::Allocator;
 use std::io::{ErrorKind, Read, Write};
 
@@ -133,7 +132,7 @@ impl<A: Allocator + Copy, O: Opener> Session<A, O> {
     pub fn take(&mut self, octets: &[u8]) {
         let mut rest = octets;
         for _ in 0..octets.len() {
-            let Some(at) = memchr(b'\n', rest) else {
+            let Some(at) = rest.iter().position(|octet| *octet == b'\n') else {
                 break;
             };
             let (Some(line), Some(behind)) = (rest.get(..at), rest.get(at..)) else {

@@ -1,6 +1,6 @@
 //! The words that a text is put together of.
 
-ghost use Rattle.std.specs.Prelude.{◌≡◌, true, false, IsErr, OnOk};
+ghost use Rattle.std.specs.Prelude.{◌≡◌, ◌<◌, ◌++◌, ◌∷◌, [], true, false, IsErr, OnOk, string_bytes};
 
 use itoa::Buffer;
 use std::alloc::{AllocError, Allocator};
@@ -125,18 +125,38 @@ impl<A: Allocator> Text<A> {
         Some((before, len, lines))
     }
 
-    /// Appends words.
-    pub fn push(&mut self, words: &str)
-        ensures { self.old.is_refused ≡ true → self.new.is_refused ≡ true }
+    /// Appends words of any length.
+    fn append(&mut self, words: &str)
+        ensures refused { self.old.is_refused ≡ true → self.new.is_refused ≡ true }
+        ensures words { self.new.is_refused ≡ false
+            → string_bytes self.new.words ≡ string_bytes self.old.words ++ words.now }
     {
         if !self.is_refused {
             self.is_refused = self.words.push_str(words).is_err();
         }
     }
 
+    /// Appends words. One or two letters are appended by themselves, which costs less than a copy.
+    pub fn push(&mut self, words: &str)
+        ensures refused { self.old.is_refused ≡ true → self.new.is_refused ≡ true }
+        ensures words { self.new.is_refused ≡ false
+            → string_bytes self.new.words ≡ string_bytes self.old.words ++ words.now }
+    {
+        match words.as_bytes() {
+            [first] if first.is_ascii() => self.letter(char::from(*first)),
+            [first, last] if first.is_ascii() && last.is_ascii() => {
+                self.letter(char::from(*first));
+                self.letter(char::from(*last));
+            }
+            _ => self.append(words),
+        }
+    }
+
     /// Appends a letter.
     pub fn letter(&mut self, letter: char)
-        ensures { self.old.is_refused ≡ true → self.new.is_refused ≡ true }
+        ensures refused { self.old.is_refused ≡ true → self.new.is_refused ≡ true }
+        ensures ascii { letter < 128 → self.new.is_refused ≡ false
+            → string_bytes self.new.words ≡ string_bytes self.old.words ++ letter ∷ [] }
     {
         if !self.is_refused {
             self.is_refused = self.words.push(letter).is_err();
