@@ -82,6 +82,15 @@ pub none_if_not_some : {A : Type 0} (o : Option A) → IsTrue (not (is_some o)) 
 none_if_not_some None h = refl
 none_if_not_some (Some x) h = cc
 
+-- a condition is not true together with its opposite, and its opposite is true if it is not
+pub not_both : (b : Bool) → IsTrue (not b) → IsTrue b → ⊥
+not_both true isnt is = cc isnt
+not_both false isnt is = cc is
+
+pub untrue : (b : Bool) → (IsTrue b → ⊥) → IsTrue (not b)
+untrue true never = absurd (never refl)
+untrue false never = refl
+
 -- what was met under a name has rows
 pub met_named : (name : Text) (met : Option (Text × List Row)) → option_map (λ p. p.0) met ≡ Some name → (rows : List Row) × (met ≡ Some (name, rows))
 met_named name None e = absurd (cc e)

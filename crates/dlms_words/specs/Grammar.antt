@@ -142,7 +142,8 @@ poll_command = with_rules (with_rules (new_app (codes "poll"))
 abbrev pub collect_command : App
 collect_command = with_rules (new_app (codes "collect"))
     (wanted_rule (codes "LIST") ∷ option_rule (codes "readings")
-    ∷ option_rule (codes "get") ∷ flag_rule (codes "clock") ∷ option_rule (codes "secret-file")
+    ∷ option_rule (codes "get") ∷ flag_rule (codes "clock") ∷ flag_rule (codes "set")
+    ∷ number_rule (codes "threshold") 0 86400 ∷ option_rule (codes "secret-file")
     ∷ number_rule (codes "client") 1 127 ∷ number_rule (codes "at-once") 1 100000 ∷ number_rule (codes "deadline") 1 86400
     ∷ number_rule (codes "every") 1 31536000 ∷ number_rule (codes "retries") 0 100
     ∷ option_rule (codes "failed") ∷ flag_rule (codes "quiet") ∷ flag_rule (codes "json") ∷ [])

@@ -216,6 +216,8 @@ Asks met (Collect options) = (rows : List Row) × (met ≡ Some (codes "collect"
     × (option_map (λ f. f.now) options.readings ≡ first_of (codes "readings") rows)
     × (option_map (λ f. f.now) options.get ≡ first_of (codes "get") rows)
     × IsSaid (first_of (codes "clock") rows) options.clock
+    × IsSaid (first_of (codes "set") rows) options.set
+    × IsSaidFor (codes "threshold") rows THRESHOLD options.threshold
     × (option_map (λ f. f.now) options.secret_file ≡ first_of (codes "secret-file") rows)
     × MaySayFor (codes "client") rows options.client
     × IsSaidFor (codes "at-once") rows AT_ONCE options.at_once
@@ -421,12 +423,31 @@ abbrev pub PagesNothing : Met → Type 0
 PagesNothing met = (rows : List Row) × (met ≡ Some (codes "explain", rows))
     × IsTrue (is_some (first_of (codes "page") rows)) × (first_of (codes "html") rows ≡ None)
 
+-- a flag of this command is given without the other one, which it needs
+abbrev pub GivesAlone : (command flag other : Text) → Met → Type 0
+GivesAlone command flag other met = (rows : List Row) × (met ≡ Some (command, rows))
+    × (first_of flag rows ≡ Some (codes "true"))
+    × (first_of other rows ≡ Some (codes "true") → ⊥)
+
+-- an option of this command is named without a flag, which it needs
+abbrev pub NamesAlone : (command option flag : Text) → Met → Type 0
+NamesAlone command option flag met = (rows : List Row) × (met ≡ Some (command, rows))
+    × IsTrue (is_some (first_of option rows)) × (first_of flag rows ≡ Some (codes "true") → ⊥)
+
+-- clocks are to be set, and not compared
+abbrev pub SetsUnseen : Met → Type 0
+SetsUnseen = GivesAlone (codes "collect") (codes "set") (codes "clock")
+
+-- it is given how far off a clock may be, and none is to be set
+abbrev pub SetsNothing : Met → Type 0
+SetsNothing = NamesAlone (codes "collect") (codes "threshold") (codes "set")
+
 -- two are given and one is wanted, or one is given that needs another
 abbrev pub AsksBoth : Met → Type 0
 AsksBoth met = AsksTwoClients met ⊎ GivesClientTwice met ⊎ NamesTwoPlaces met ⊎ WrapsLine met
     ⊎ AsksTwoDemos met ⊎ WidensPort met ⊎ SizesMessages met ⊎ ShowsSecret met ⊎ ReadsIdleCounter met
     ⊎ ExpectsInClear met ⊎ CollectsBoth met ⊎ ComparesToo met ⊎ CollectsNothing met
-    ⊎ PrintsReport met ⊎ PagesNothing met
+    ⊎ PrintsReport met ⊎ PagesNothing met ⊎ SetsUnseen met ⊎ SetsNothing met
 
 -- the text that the command line gives for this option or operand of the command
 abbrev pub value_in : Text → Met → Option Text

@@ -191,6 +191,10 @@ pub struct CollectOptions<'a> {
     pub get: Option<&'a str>,
     /// Whether clocks are compared instead.
     pub clock: bool,
+    /// Whether those are set that are off by more than the threshold.
+    pub set: bool,
+    /// By how many seconds a clock may be off that is not set.
+    pub threshold: u32,
     /// The file of the client's secret, for meters whose line names none.
     pub secret_file: Option<&'a str>,
     /// The address of the client, 1 to 127, for meters whose line names none, if one is given.

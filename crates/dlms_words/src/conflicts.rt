@@ -1,7 +1,7 @@
 //! Options that exclude each other, and addresses that are invalid.
 ghost use Rattle.std.specs.Prelude.{◌≡◌, ◌↔◌, option_map, IfNone, OnSome, IsTrue};
 ghost use Rattle.clap.specs.Words.{subcommand_rows_of};
-ghost use Rattle.dlms_words.specs.Words.{GivesClientTwice, NamesAnd, GivesBoth, AsksBoth, IsInvalid, NamesNoAddress, NamesNoColor, NamesNoShell, is_color, is_shell, value_in, NamesTwoPlaces, ReadsIdleCounter, CollectsBoth, CollectsNothing, ComparesToo, ShowsSecret, SizesMessages, WidensPort, ExpectsInClear, FillsReport, LaysOutReport, NamesBoth, NamesNoPlace, PagesNothing, PrintsReport};
+ghost use Rattle.dlms_words.specs.Words.{GivesClientTwice, NamesAnd, GivesBoth, AsksBoth, IsInvalid, NamesNoAddress, NamesNoColor, NamesNoShell, is_color, is_shell, value_in, NamesTwoPlaces, ReadsIdleCounter, CollectsBoth, CollectsNothing, ComparesToo, ShowsSecret, SizesMessages, WidensPort, ExpectsInClear, FillsReport, LaysOutReport, NamesBoth, NamesNoPlace, PagesNothing, PrintsReport, GivesAlone, NamesAlone};
 
 use crate::addresses::{is_address, is_place};
 use crate::values::{is_given, is_named, value_for};
@@ -43,6 +43,12 @@ const COMPARES_TOO: &str = "the argument '--clock' cannot be used with '--get' o
 /// The message if none of the three is wanted.
 const NO_PURPOSE: &str =
     "one of the arguments '--readings <DIR>', '--get <NAMES>' and '--clock' is required";
+
+/// The message if clocks are to be set, and not compared.
+const SETS_UNSEEN: &str = "the argument '--set' cannot be used without '--clock'";
+
+/// The message if it is given how far off a clock may be, and none is to be set.
+const SETS_NOTHING: &str = "the argument '--threshold' cannot be used without '--set'";
 
 /// The message if a report is wanted, and how a text is printed.
 const TEXT_OF_REPORT: &str =
@@ -108,6 +114,32 @@ fn names_both(matches: &ArgMatches<'_>, command: &str, first: &str, second: &str
     let has_first = is_named(matches, command, first);
     let has_second = is_named(matches, command, second);
     has_first && has_second
+}
+
+/// Whether a flag of a command was given without the other one.
+fn gives_alone(matches: &ArgMatches<'_>, command: &str, flag: &str, other: &str) -> bool
+    ensures { IsTrue result ↔ GivesAlone command.now flag.now other.now
+        (subcommand_rows_of matches.now) }
+{
+    if matches.subcommand_name() != Some(command) {
+        return false;
+    }
+    let is_flag = is_given(value_for(matches, command, flag));
+    let is_other = is_given(value_for(matches, command, other));
+    is_flag && !is_other
+}
+
+/// Whether an option of a command was named without a flag.
+fn names_alone(matches: &ArgMatches<'_>, command: &str, option: &str, flag: &str) -> bool
+    ensures { IsTrue result ↔ NamesAlone command.now option.now flag.now
+        (subcommand_rows_of matches.now) }
+{
+    if matches.subcommand_name() != Some(command) {
+        return false;
+    }
+    let is_option = is_named(matches, command, option);
+    let is_flag = is_given(value_for(matches, command, flag));
+    is_option && !is_flag
 }
 
 /// Whether a report is wanted, and a layout of its text.
@@ -308,6 +340,12 @@ pub fn conflict(matches: &ArgMatches<'_>) -> Option<&'static str>
     }
     if pages_nothing(matches) {
         return Some(NO_REPORT);
+    }
+    if gives_alone(matches, "collect", "set", "clock") {
+        return Some(SETS_UNSEEN);
+    }
+    if names_alone(matches, "collect", "threshold", "set") {
+        return Some(SETS_NOTHING);
     }
     None
 }

@@ -67,12 +67,12 @@ pub const COLLECT: &str =
     "Each line of LIST is NAME PLACE, and if needed client=, server=, carrier=, secret-file=, security= or
 expect=, the logical device name. The rows of a meter go to NAME.csv in DIR, and are printed after its
 name. With --get its values are printed so instead, and nothing is filed; with --clock its time, and
-the seconds by which it is ahead.
+the seconds by which it is ahead; with --set also what was done, and both afterwards.
 
 Examples:
   dlms collect meters.txt --readings readings --every 900 --failed failed.txt
   dlms collect meters.txt --get 1.8.0,clock --json
-  dlms collect meters.txt --clock";
+  dlms collect meters.txt --clock --set --client 1 --secret-file secret";
 
 /// The notes of `get`.
 pub const GET: &str =

@@ -7,7 +7,7 @@ use crate::commands::{
     CollectOptions, Expecting, ExplainOptions, FormatOptions, Job, KeysOptions, ListenOptions,
     LoopbackOptions, PlotOptions, PollOptions, ServeOptions, ShowOptions,
 };
-use crate::defaults::{AT_ONCE, DEADLINE, IDLE, INACTIVITY, TICK, TURN};
+use crate::defaults::{AT_ONCE, DEADLINE, IDLE, INACTIVITY, THRESHOLD, TICK, TURN};
 use crate::requests::meter;
 use crate::values::{
     ahead, color_choice, given_number_for, is_given, nth_for, number_for, output_format, shell,
@@ -152,11 +152,14 @@ fn collect_job<'a>(matches: &ArgMatches<'a>) -> Job<'a>
     let quiet = is_given(value_for(matches, "collect", "quiet"));
     let json = is_given(value_for(matches, "collect", "json"));
     let clock = is_given(value_for(matches, "collect", "clock"));
+    let set = is_given(value_for(matches, "collect", "set"));
     Job::Collect(CollectOptions {
         list: value_for(matches, "collect", "LIST").unwrap_or(""),
         readings: value_for(matches, "collect", "readings"),
         get: value_for(matches, "collect", "get"),
         clock,
+        set,
+        threshold: number_for(matches, "collect", "threshold", THRESHOLD),
         secret_file: value_for(matches, "collect", "secret-file"),
         client: given_number_for(matches, "collect", "client"),
         at_once: number_for(matches, "collect", "at-once", AT_ONCE),

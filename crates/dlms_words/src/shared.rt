@@ -38,6 +38,18 @@ pub const QUIET: Argument = Argument {
     help: "Shows no progress on a terminal",
 };
 
+pub const SET_CLOCK: Argument = Argument {
+    name: "set",
+    kind: Kind::Flag,
+    help: "Sets a clock that is off by more than the threshold",
+};
+
+pub const THRESHOLD: Argument = Argument {
+    name: "threshold",
+    kind: Kind::Number("SECONDS", 0, 86_400),
+    help: "How far off a clock may be, 0 to 86400 [default: 5]",
+};
+
 pub const WRAPPER: Argument = Argument {
     name: "wrapper",
     kind: Kind::Flag,

@@ -7,7 +7,7 @@ use crate::help::{
 };
 use crate::shared::{
     ASKING, CLASS, DEADLINE, JSON, JSON_LINES, METER_FILE, PLACE, POLLING, QUIET, SECRET_FILE,
-    WRAPPER,
+    SET_CLOCK, THRESHOLD, WRAPPER,
 };
 
 /// The program's version, as `--version` prints it.
@@ -261,6 +261,8 @@ pub const COMMANDS: [CommandWords; 20] = [
                 kind: Kind::Flag,
                 help: "Compares their clocks with the system's instead",
             },
+            SET_CLOCK,
+            THRESHOLD,
             SECRET_FILE,
             Argument {
                 name: "client",
@@ -375,20 +377,7 @@ pub const COMMANDS: [CommandWords; 20] = [
         name: "clock",
         about: "Compares the clock of the meter at PLACE with the system's, and sets it",
         notes: CLOCK,
-        arguments: &[
-            PLACE,
-            Argument {
-                name: "set",
-                kind: Kind::Flag,
-                help: "Sets a clock that is off by more than the threshold",
-            },
-            Argument {
-                name: "threshold",
-                kind: Kind::Number("SECONDS", 0, 86_400),
-                help: "How far off a clock may be, 0 to 86400 [default: 5]",
-            },
-            JSON,
-        ],
+        arguments: &[PLACE, SET_CLOCK, THRESHOLD, JSON],
         more: ASKING,
     },
     CommandWords {

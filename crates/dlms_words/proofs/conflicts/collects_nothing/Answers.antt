@@ -1,16 +1,8 @@
 use Rattle.std.proofs.Common.{rules, ◌≡◌, refl, inl, inr, Option, Some, None, Bool, true, false, IsTrue, is_some, codes, not, subst}
 use Rattle.clap.specs.Words.{Text, first_of, subcommand_rows_of}
 use Rattle.dlms_words.specs.Words.{IsSaid}
-use Rattle.dlms_words.proofs.WordLemmas.{met_named, none_if_not_some}
+use Rattle.dlms_words.proofs.WordLemmas.{met_named, none_if_not_some, not_both, untrue}
 use Rattle.dlms_words.proofs.conflicts.collects_nothing.Goals as goal
-
-not_both : (b : Bool) → IsTrue (not b) → IsTrue b → ⊥
-not_both true isnt is = cc isnt
-not_both false isnt is = cc is
-
-untrue : (b : Bool) → (IsTrue b → ⊥) → IsTrue (not b)
-untrue true never = absurd (never refl)
-untrue false never = refl
 
 gone : {A : Type 0} (b : Bool) (o : Option A) → b ≡ true → b ≡ is_some o → o ≡ None → ⊥
 gone b None is same none = let both : true ≡ false = subst (λ (x : Bool). x ≡ false) is same in cc both

@@ -33,7 +33,13 @@ returns-clause-none c = λ both. elim both [
                           | inl it ↦ no_truth _ c.if-collects_nothing.false (c.collects_nothing.ensures.1 it)
                           | inr rest ↦ elim rest [
                             | inl it ↦ no_truth _ c.if-prints_report.false (c.prints_report.ensures.1 it)
-                            | inr rest ↦ no_truth _ c.if-pages_nothing.false (c.pages_nothing.ensures.1 rest)
+                            | inr rest ↦ elim rest [
+                              | inl it ↦ no_truth _ c.if-pages_nothing.false (c.pages_nothing.ensures.1 it)
+                              | inr rest ↦ elim rest [
+                                | inl it ↦ no_truth _ c.if-gives_alone.false (c.gives_alone.ensures.1 it)
+                                | inr rest ↦ no_truth _ c.if-names_alone.false (c.names_alone.ensures.1 rest)
+                              ]
+                            ]
                           ]
                         ]
                       ]
@@ -53,10 +59,16 @@ pub returns-then-prints_report-clause-some : goal.returns-then-prints_report-cla
 returns-then-prints_report-clause-some c = inr (inr (inr (inr (inr (inr (inr (inr (inr (inr (inr (inr (inr (inl (c.prints_report.ensures.0 c.if-prints_report.true))))))))))))))
 
 pub returns-then-pages_nothing-clause-some : goal.returns-then-pages_nothing-clause-some
-returns-then-pages_nothing-clause-some c = inr (inr (inr (inr (inr (inr (inr (inr (inr (inr (inr (inr (inr (inr (c.pages_nothing.ensures.0 c.if-pages_nothing.true))))))))))))))
+returns-then-pages_nothing-clause-some c = inr (inr (inr (inr (inr (inr (inr (inr (inr (inr (inr (inr (inr (inr (inl (c.pages_nothing.ensures.0 c.if-pages_nothing.true)))))))))))))))
 
 pub returns-then-compares_too-clause-some : goal.returns-then-compares_too-clause-some
 returns-then-compares_too-clause-some c = inr (inr (inr (inr (inr (inr (inr (inr (inr (inr (inr (inl (c.compares_too.ensures.0 c.if-compares_too.true))))))))))))
 
 pub returns-then-collects_nothing-clause-some : goal.returns-then-collects_nothing-clause-some
 returns-then-collects_nothing-clause-some c = inr (inr (inr (inr (inr (inr (inr (inr (inr (inr (inr (inr (inl (c.collects_nothing.ensures.0 c.if-collects_nothing.true)))))))))))))
+
+pub returns-then-gives_alone-clause-some : goal.returns-then-gives_alone-clause-some
+returns-then-gives_alone-clause-some c = inr (inr (inr (inr (inr (inr (inr (inr (inr (inr (inr (inr (inr (inr (inr (inl (c.gives_alone.ensures.0 c.if-gives_alone.true))))))))))))))))
+
+pub returns-then-names_alone-clause-some : goal.returns-then-names_alone-clause-some
+returns-then-names_alone-clause-some c = inr (inr (inr (inr (inr (inr (inr (inr (inr (inr (inr (inr (inr (inr (inr (inr (c.names_alone.ensures.0 c.if-names_alone.true))))))))))))))))
