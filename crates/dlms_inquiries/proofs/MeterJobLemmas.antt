@@ -15,7 +15,7 @@ use Rattle.dlms_inquiries.specs.Inquiries.{Sent}
 use Rattle.dlms_inquiries.specs.MeterJobs.{DoneIsAPoll, MeterSteps, of_poll, poll_of}
 use Rattle.dlms_inquiries.specs.declared.meter_job.JobFault.{JobFault}
 use Rattle.dlms_inquiries.specs.declared.meter_job.MeterJob.{MeterJob}
-use Rattle.dlms_inquiries.specs.declared.meter_job.MeterJob.TheVariants.{Poll, Text, Values}
+use Rattle.dlms_inquiries.specs.declared.meter_job.MeterJob.TheVariants.{Poll, Text, Values, Clock}
 
 -- steps of a poll from here to there, the last of which is Done
 record Polls (job result : Box PollEndValue Global) : Type 0 where
@@ -46,6 +46,7 @@ one_before : (job result : Box PollEndValue Global) (one : Input × JobStep Sent
     → ((m : Box PollEndValue Global) → mid ≡ Poll m → Polls m result) → Polls job result
 one_before job result one (Text m) goes takes more = absurd takes
 one_before job result one (Values m) goes takes more = absurd takes
+one_before job result one (Clock m) goes takes more = absurd takes
 one_before job result one (Poll m) goes (own, takes, is) more =
     let rest = more m refl in
     let (front, at, going, e) = rest.done in record {

@@ -16,13 +16,14 @@ use Rattle.dlms_headend.specs.CarrierPollValue.{TermsValue}
 use Rattle.dlms_jobs.specs.PollJobs.{JobSteps as PollSteps}
 use Rattle.dlms_secured.specs.Guard.{GuardValue}
 use Rattle.dlms_inquiries.specs.Attributes.{AttributesFollow}
+use Rattle.dlms_inquiries.specs.ClockScripts.{ClockFollows}
 use Rattle.dlms_inquiries.specs.Inquiries.{JobSteps, Sent}
 use Rattle.dlms_inquiries.specs.Questions.{QuestionsFollow}
 use Rattle.dlms_inquiries.specs.declared.fault.InquiryFault.{InquiryFault}
 use Rattle.dlms_inquiries.specs.declared.meter_job.JobFault.{JobFault}
 use Rattle.dlms_inquiries.specs.declared.meter_job.JobFault.TheVariants as fault
 use Rattle.dlms_inquiries.specs.declared.meter_job.MeterJob.{MeterJob}
-use Rattle.dlms_inquiries.specs.declared.meter_job.MeterJob.TheVariants.{Poll, Text, Values}
+use Rattle.dlms_inquiries.specs.declared.meter_job.MeterJob.TheVariants.{Poll, Text, Values, Clock}
 
 -- the step of a poll, and of requests, as that of a meter's job
 abbrev pub of_poll : JobStep Sent RunFault → JobStep Sent JobFault
@@ -43,14 +44,22 @@ MeterSteps (Poll old) at step (Poll new) = (own : JobStep Sent RunFault)
     × PollSteps old.value at own new.value × (step ≡ of_poll own)
 MeterSteps (Poll old) at step (Text new) = ⊥
 MeterSteps (Poll old) at step (Values new) = ⊥
+MeterSteps (Poll old) at step (Clock new) = ⊥
 MeterSteps (Text old) at step (Text new) = (own : JobStep Sent InquiryFault)
     × JobSteps QuestionsFollow old.value at own new.value × (step ≡ of_inquiry own)
 MeterSteps (Text old) at step (Poll new) = ⊥
 MeterSteps (Text old) at step (Values new) = ⊥
+MeterSteps (Text old) at step (Clock new) = ⊥
 MeterSteps (Values old) at step (Values new) = (own : JobStep Sent InquiryFault)
     × JobSteps AttributesFollow old.value at own new.value × (step ≡ of_inquiry own)
 MeterSteps (Values old) at step (Poll new) = ⊥
 MeterSteps (Values old) at step (Text new) = ⊥
+MeterSteps (Values old) at step (Clock new) = ⊥
+MeterSteps (Clock old) at step (Clock new) = (own : JobStep Sent InquiryFault)
+    × JobSteps ClockFollows old.value at own new.value × (step ≡ of_inquiry own)
+MeterSteps (Clock old) at step (Poll new) = ⊥
+MeterSteps (Clock old) at step (Text new) = ⊥
+MeterSteps (Clock old) at step (Values new) = ⊥
 
 -- the poll of the meter with this number
 abbrev pub poll_of : ℕ → Box PollEndValue Global → Numbered MeterJob

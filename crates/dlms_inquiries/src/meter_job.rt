@@ -5,6 +5,7 @@ ghost use Rattle.dlms_inquiries.specs.MeterJobs.{of_inquiry, of_poll};
 
 use crate::ask_job::AskJob;
 use crate::attributes::Attributes;
+use crate::clock_script::ClockScript;
 use crate::fault::InquiryFault;
 use crate::questions::Questions;
 use dlms_ends::RunFault;
@@ -20,6 +21,8 @@ pub enum MeterJob {
     Text(Box<AskJob<Questions>>),
     /// Attributes are requested by their names.
     Values(Box<AskJob<Attributes>>),
+    /// Its clock is read, and corrected before if it was found to be off.
+    Clock(Box<AskJob<ClockScript>>),
 }
 
 /// Why a job failed.
@@ -60,6 +63,7 @@ impl MeterJob {
             MeterJob::Poll(job) => job.peer(),
             MeterJob::Text(job) => job.peer(),
             MeterJob::Values(job) => job.peer(),
+            MeterJob::Clock(job) => job.peer(),
         }
     }
 
@@ -69,6 +73,7 @@ impl MeterJob {
             MeterJob::Poll(job) => job.first_accepted(),
             MeterJob::Text(job) => job.first_accepted(),
             MeterJob::Values(job) => job.first_accepted(),
+            MeterJob::Clock(job) => job.first_accepted(),
         }
     }
 
@@ -78,6 +83,7 @@ impl MeterJob {
             MeterJob::Poll(job) => job.last_accepted(),
             MeterJob::Text(job) => job.last_accepted(),
             MeterJob::Values(job) => job.last_accepted(),
+            MeterJob::Clock(job) => job.last_accepted(),
         }
     }
 }
@@ -96,6 +102,7 @@ impl Job for MeterJob {
             MeterJob::Poll(job) => of_poll(job.begin()),
             MeterJob::Text(job) => of_inquiry(job.begin()),
             MeterJob::Values(job) => of_inquiry(job.begin()),
+            MeterJob::Clock(job) => of_inquiry(job.begin()),
         }
     }
 
@@ -104,6 +111,7 @@ impl Job for MeterJob {
             MeterJob::Poll(job) => of_poll(job.read(bytes)),
             MeterJob::Text(job) => of_inquiry(job.read(bytes)),
             MeterJob::Values(job) => of_inquiry(job.read(bytes)),
+            MeterJob::Clock(job) => of_inquiry(job.read(bytes)),
         }
     }
 
@@ -112,6 +120,7 @@ impl Job for MeterJob {
             MeterJob::Poll(job) => of_poll(job.timeout()),
             MeterJob::Text(job) => of_inquiry(job.timeout()),
             MeterJob::Values(job) => of_inquiry(job.timeout()),
+            MeterJob::Clock(job) => of_inquiry(job.timeout()),
         }
     }
 }
