@@ -3,10 +3,11 @@
 ghost use Rattle.std.specs.Prelude.{◌≤◌, IfOk};
 ghost use Rattle.dlms_data.specs.declared.date_time.TheConstants.{LAST_SECOND};
 
-use crate::requests::{read_value, second_of};
+use crate::requests::read_value;
 use dlms_data::{Data, octet_string_of};
 use dlms_ends::RunFault;
 use dlms_faults::Fault;
+use dlms_inquiries::second_of;
 use std::alloc::Global;
 use std::io::{ErrorKind, Read};
 use std::rt::Files;

@@ -21,7 +21,7 @@ mod setting;
 mod watched_line;
 
 pub use asking::{ask_for_clock, ask_for_profile, ask_to_act, ask_to_get, ask_to_list, ask_to_set};
-pub use clock::Comparison;
+pub use clock::{append_correction, append_csv, correction_word};
 pub use given::now;
 pub use guards::{PollGuards, guards_of, passed};
 pub use keys::{run_keys, stations_of};

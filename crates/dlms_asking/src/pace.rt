@@ -3,7 +3,7 @@
 use crate::asking::{FEW_COUNTERS, SIZE, is_silence, line_to, open_association};
 use crate::counter::last_counter;
 use crate::profile::{BUFFER, LOAD_PROFILE, PROFILE};
-use crate::requests::{MeterSession, read_name, twelve};
+use crate::requests::{MeterSession, read_name};
 use crate::route::{PollLine, poll_line, poll_secret};
 use crate::security::{heed_counter, keep_counter, parted, protection_for};
 use dlms_buffer::by_entries;
@@ -14,6 +14,7 @@ use dlms_ends::End;
 use dlms_faults::Fault;
 use dlms_frame::Address;
 use dlms_guards::Protection;
+use dlms_inquiries::twelve;
 use dlms_polling::{HostPollInputs, PollInputs, secret_of};
 use dlms_values::{Value, read};
 use dlms_words::PollOptions;

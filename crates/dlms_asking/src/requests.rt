@@ -1,49 +1,25 @@
 //! The requests to a meter, one after another, and the output for each.
 
-ghost use Rattle.std.specs.Prelude.{◌≤◌, ◌<◌, ◌+◌, ◌≡◌, ◌⊎◌, MatchOption};
+ghost use Rattle.std.specs.Prelude.{◌≤◌};
 ghost use Rattle.dlms_data.specs.declared.date_time.TheConstants.{LAST_SECOND};
-ghost use Rattle.dlms_asking.specs.declared.requests.TheConstants.{BEGINNING};
 
 use dlms_call::{CallFault, ClientEnd, end, get, set};
 use dlms_client::Answer;
-use dlms_data::{Data, Descriptor, LAST_SECOND};
+use dlms_data::{Data, Descriptor};
 use dlms_ends::End;
 use dlms_faults::Fault;
-use dlms_inquiries::{class_by_name, class_named, object_list, scale_of, scaler_of};
+use dlms_inquiries::{class_by_name, class_named, clock_in, object_list, scale_of, scaler_of};
 use dlms_printing::Teller;
 use dlms_text::{Name, ValueFault, value_of, written_name};
 use dlms_words::ValueFormat;
 use std::alloc::Global;
 use std::io::Write;
 
-/// The second of the system's clock, counted from 1970-01-01 00:00:00, at which the meter's begins.
-const BEGINNING: u64 = 946_684_800;
-
 /// The attribute of what most classes keep.
 pub const SECOND: u8 = 2;
 
-/// The tags of an octet-string and of a date-time (A-XDR, IEC 62056-6-2, common data types).
-const OCTET_STRING: u8 = 9;
-
-const DATE_TIME: u8 = 25;
-
 /// The class Clock, whose time its attribute 2 is.
 pub const CLOCK: u16 = 8;
-
-/// The second of a meter's clock, counted from 2000-01-01 00:00:00, at this second of the system's; `None` if no meter's clock can
-/// show it, before 2000 or after 2099.
-pub fn second_of(seconds: u64) -> Option<u32>
-    ensures { MatchOption result ((seconds < BEGINNING)
-        ⊎ (BEGINNING + LAST_SECOND < seconds)) (λ second. (second ≤ LAST_SECOND)
-        × (BEGINNING + second ≡ seconds)) }
-{
-    let second = u32::try_from(seconds.checked_sub(BEGINNING)?).ok()?;
-    if second <= LAST_SECOND {
-        Some(second)
-    } else {
-        None
-    }
-}
 
 /// How values are printed, and whether each has its name in front.
 #[derive(Clone, Copy)]
@@ -374,23 +350,4 @@ impl<'a, S: End> MeterSession<'a, '_, S> {
     pub fn end(&mut self) {
         let _ended = end(self.line, &mut self.head);
     }
-}
-
-/// The octets of a date-time that an encoding says, as an octet-string or as a date-time.
-pub fn clock_in(bytes: &[u8]) -> Option<[u8; 12]> {
-    match bytes {
-        [DATE_TIME, octets @ ..] => twelve(octets),
-        [OCTET_STRING, 12, octets @ ..] => twelve(octets),
-        _ => None,
-    }
-}
-
-/// Twelve octets.
-pub fn twelve(bytes: &[u8]) -> Option<[u8; 12]> {
-    let mut octets = [0; 12];
-    if bytes.len() != 12 {
-        return None;
-    }
-    octets.copy_from_slice(bytes);
-    Some(octets)
 }
