@@ -1,3 +1,5 @@
+pub mod Clocks
 pub mod Held
 pub mod List
 pub mod Own
+pub mod OwnRun

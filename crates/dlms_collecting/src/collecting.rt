@@ -1,6 +1,9 @@
-//! Polls the meters of a list, or requests attributes of them, side by side, once or again and again.
+//! Polls the meters of a list, or requests attributes of them, or compares and corrects their clocks, side by side, once or again and
+//! again.
 
-ghost use Rattle.std.specs.Prelude.{◌≤◌, ◌<◌};
+ghost use Rattle.std.specs.Prelude.{◌≡◌, ◌≤◌, ◌<◌, ℤ, Option};
+ghost use Rattle.dlms_collecting.specs.Clocks.{corrects};
+ghost use Rattle.dlms_inquiries.specs.Clocks.{IsAhead};
 
 use crate::descriptors::{open_files, polls_within};
 use crate::fault::{CollectFault, FaultText};
@@ -11,6 +14,7 @@ use crate::report::{Tally, failed_lines, print_failures, print_tally};
 use crate::round::{Round, moment};
 use crate::values::ValueText;
 use dlms_filing::{FilePlace, Filing, Holding, HostDisk, Output};
+use dlms_inquiries::{Comparison, is_off};
 use dlms_pages::sync_folder;
 use dlms_text::Name;
 use std::fs::{File, Files};
@@ -23,6 +27,9 @@ use std::time::{Clock, Duration, Instant};
 /// The name of a path in the folder of the readings files; no file of this path is opened.
 const PROBE: &str = "collect";
 
+/// The name of a clock in a refusal.
+const CLOCK_NAME: &str = "clock";
+
 /// What is wanted of each meter.
 #[derive(Clone, Copy)]
 pub enum Purpose<'a> {
@@ -30,6 +37,9 @@ pub enum Purpose<'a> {
     Poll(&'a str),
     /// The attributes of these names, which are written so, with commas between them.
     Get(&'a str, &'a [Name]),
+    /// Its clock, beside the system's. One that is off by more than this many seconds is corrected, and then read again; without a number
+    /// none is.
+    Clock(Option<u32>),
 }
 
 impl<'a> Purpose<'a> {
@@ -37,7 +47,18 @@ impl<'a> Purpose<'a> {
     pub fn folder(&self) -> Option<&'a str> {
         match self {
             Purpose::Poll(folder) => Some(*folder),
-            Purpose::Get(..) => None,
+            Purpose::Get(..) | Purpose::Clock(_) => None,
+        }
+    }
+
+    /// Whether a clock that was found so is corrected.
+    pub fn corrects(&self, found: &Comparison) -> bool
+        ensures { (ahead : Option ℤ) × IsAhead found.now ahead × (result ≡ corrects self.now ahead) }
+    {
+        let ahead = found.ahead();
+        match self {
+            Purpose::Clock(Some(threshold)) => is_off(ahead, *threshold),
+            _ => false,
         }
     }
 
@@ -46,6 +67,7 @@ impl<'a> Purpose<'a> {
         match self {
             Purpose::Poll(_) => "",
             Purpose::Get(names, _) => *names,
+            Purpose::Clock(_) => CLOCK_NAME,
         }
     }
 }
@@ -214,8 +236,8 @@ fn run_round<
 }
 
 /// Polls the meters of a list side by side, and files the rows of each into `FOLDER/NAME.csv` by the rules of `poll`: the new rows are
-/// printed in the wanted format before their file is put. Or requests attributes of them, and prints the values as `texts` has them. A
-/// meter of which a text is expected shows it before. After a round a line on the errors reports each meter that failed, with the text
+/// printed in the wanted format before their file is put. Or requests attributes of them, or compares and corrects their clocks, and
+/// prints the values or clocks as `texts` has them. A meter of which a text is expected shows it before. After a round a line on the errors reports each meter that failed, with the text
 /// that `texts` has for it. Progress is shown on the errors if `is_terminal`: they are a terminal, and the rows do not go to it. Returns
 /// the result of the last round.
 pub fn collect<

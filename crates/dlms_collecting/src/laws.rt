@@ -2,6 +2,7 @@
 
 ghost use Rattle.dlms_collecting.specs.Held.{WhatIsCollectedIsHeld};
 ghost use Rattle.dlms_collecting.specs.Own.{WhatIsFiledIsItsOwn};
+ghost use Rattle.dlms_collecting.specs.OwnRun.{OwnPollsExist};
 
 use dlms_carrier::AnyCarrier;
 use dlms_inquiries::laws::done_is_a_poll;
@@ -28,3 +29,9 @@ pub fn what_is_filed_is_its_own()
 {
     done_is_a_poll();
 }
+
+/// The law of filed rows speaks of real polls: each new poll of a meter over the wrapper that is started on a seat, and gets the meter's
+/// answers, is handed back as done with the rows that they spell, and each filing of these rows is one that the law speaks of.
+pub fn own_polls_exist()
+    ensures { OwnPollsExist }
+{}

@@ -1,4 +1,5 @@
-//! Polls many meters side by side in one process, each into a readings file of its own, or requests attributes of them.
+//! Polls many meters side by side in one process, each into a readings file of its own, or requests attributes of them, or compares and
+//! corrects their clocks.
 #![tactic(auto)]
 
 mod collecting;
@@ -27,4 +28,4 @@ pub use list::{Defaults, Meter, read_list};
 pub use list_fault::{LineFault, ListFault};
 pub use named::{Named, RowFormat, append_second};
 pub use report::Tally;
-pub use values::{MeterValue, ValueText};
+pub use values::{MeterClock, MeterValue, ValueText};

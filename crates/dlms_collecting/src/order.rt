@@ -1,9 +1,11 @@
 //! What a seat does with a meter: the job, the readings file that it is for, and the counters of its association.
 
-ghost use Rattle.std.specs.Prelude.{◌≤◌, IfOk, IfSome};
+ghost use Rattle.std.specs.Prelude.{◌≡◌, ◌≤◌, IfOk, IfSome};
 ghost use Rattle.dlms_client.specs.Plan.{IsPlan, plan_of};
+ghost use Rattle.dlms_collecting.specs.Clocks.{IsNewClockJob};
 ghost use Rattle.dlms_collecting.specs.Own.{IsNewPoll};
 ghost use Rattle.dlms_data.specs.declared.date_time.TheConstants.{LAST_SECOND};
+ghost use Rattle.dlms_inquiries.specs.Clocks.{IsSystem};
 
 use crate::fault::MeterFault;
 use crate::list::Meter;
@@ -18,7 +20,9 @@ use dlms_frame::Client;
 use dlms_guards::{POLL_COUNTERS, Protection, heed, protection_of};
 use dlms_headend::{Columns, PollTerms};
 use dlms_identity::Expected;
-use dlms_inquiries::{AskJob, Attributes, MeterJob, Question, Questions};
+use dlms_inquiries::{
+    AskJob, Attributes, ClockScript, Comparison, MeterJob, Question, Questions, second_of,
+};
 use dlms_jobs::PollJob;
 use dlms_keys::StoredCounters;
 use dlms_polling::{HostPollInputs, secret_of};
@@ -37,12 +41,14 @@ const DATA: u16 = 1;
 
 const VALUE: u8 = 2;
 
-/// What a seat does with a meter: the number of the meter in the list, its readings file if it is polled, and the counters of the
-/// association if it is protected.
+/// What a seat does with a meter: the number of the meter in the list, its readings file if it is polled, how its clock was found if it
+/// is corrected, and the counters of the association if it is protected.
 #[derive(Drop)]
 pub struct Order<'r, R> {
     pub number: usize,
     pub file: Option<MeterFile<'r, R>>,
+    /// How its clock was found, if this order corrects it.
+    pub found: Option<Comparison>,
     counters: Option<Box<StoredCounters>>,
 }
 
@@ -102,6 +108,13 @@ fn plan_for(meter: &Meter<'_>, secret: Option<ArrayVec<u8, 16>>) -> Result<Plan,
     }
 }
 
+/// The second of a meter's clock at this second of the system's; 0 if no meter's clock can show it.
+fn meter_second(second: u64) -> u32
+    ensures { IsSystem second result }
+{
+    second_of(second).unwrap_or(0)
+}
+
 /// Out of memory.
 const MEMORY: MeterFault = MeterFault::Other(RunFault::Memory);
 
@@ -111,6 +124,7 @@ impl<'r, R: Files<File = File> + Clock + AllocGlobal + RandomSource> Order<'r, R
         Order {
             number,
             file,
+            found: None,
             counters: None,
         }
     }
@@ -171,7 +185,9 @@ impl<'r, R: Files<File = File> + Clock + AllocGlobal + RandomSource> Order<'r, R
         rt: &R,
         meter: &Meter<'_>,
         script: S,
-    ) -> Result<Box<AskJob<S>>, MeterFault> {
+    ) -> Result<Box<AskJob<S>>, MeterFault>
+        ensures { IfOk result (λ job. job.value.script ≡ script) }
+    {
         let plan = plan_for(meter, secret_for(rt, meter)?)?;
         let guard = self.guard(rt, meter)?;
         match AskJob::new(rt.alloc(), plan, guard, script) {
@@ -210,6 +226,28 @@ impl<'r, R: Files<File = File> + Clock + AllocGlobal + RandomSource> Order<'r, R
             }),
             Err(_) => Err(MEMORY),
         }
+    }
+
+    /// The job that reads the meter's clock, after it is corrected if it was found so in an order before. It begins at this second of the
+    /// system's clock.
+    pub fn ask_clock(
+        &mut self,
+        rt: &R,
+        meter: &Meter<'_>,
+        found: Option<Comparison>,
+        second: u64,
+    ) -> Result<Numbered<MeterJob>, MeterFault>
+        ensures { IfOk result (IsNewClockJob self.old.number found second) }
+    {
+        let meter_number = self.number;
+        self.found = found;
+        let begins = meter_second(second);
+        let script = ClockScript::new(rt.alloc(), found, begins);
+        let job = self.ask(rt, meter, script)?;
+        Ok(Numbered {
+            number: meter_number,
+            job: MeterJob::Clock(job),
+        })
     }
 
     /// Keeps the meter's counter after a protected association, whatever came of it. One whose first message is not newer than those of

@@ -116,7 +116,7 @@ pub fn print_tally<E: Write>(tally: &Tally, purpose: Purpose<'_>, errors: &mut E
     let Tally { done, failed, rows } = *tally;
     let what = match purpose {
         Purpose::Poll(_) => "new rows",
-        Purpose::Get(..) => "values",
+        Purpose::Get(..) | Purpose::Clock(_) => "values",
     };
     let _written = writeln!(errors, "{done} done, {failed} failed, {rows} {what}");
 }

@@ -1,4 +1,4 @@
-//! A round of a collection: each meter of the list is polled once, or asked for attributes once.
+//! A round of a collection: each meter of the list is polled once, or asked for attributes once, or its clock is compared and corrected.
 
 ghost use Rattle.std.specs.Prelude.{◌≡◌, ◌*◌};
 ghost use Rattle.dlms_collecting.specs.declared.pace.TheConstants.{TICKS_A_SECOND};
@@ -15,13 +15,15 @@ use crate::progress::{AboveProgress, Progress};
 use crate::report::{Failure, Tally};
 use crate::schedule::Schedule;
 use crate::texts::judge_text;
-use crate::values::{PrintedValues, ValueText};
+use crate::values::{MeterClock, PrintedValues, ValueText, clock_of};
 use crate::wires::{EndedPoll, Seconds, Wires};
 use dlms_client::Route;
 use dlms_ends::RunFault;
 use dlms_filing::Output;
 use dlms_fleet::{Fleet, Limits, Numbered, Outcome, take_all};
-use dlms_inquiries::{AskJob, Attributes, MeterJob, Questions};
+use dlms_inquiries::{
+    AskJob, Attributes, ClockScript, Comparison, Correction, MeterJob, Questions,
+};
 use dlms_lines::host_and_port;
 use dlms_pages::sync_folder;
 use std::alloc::{AllocError, Global};
@@ -66,6 +68,8 @@ pub struct Round<'a, 'l, 'r, R, T, O, E> {
     schedule: Schedule,
     /// Whether a meter has shown the text that it has to show, by its number.
     are_known: Vec<bool>,
+    /// How the clock of a meter was found that waits for its correction, by its number; nothing if clocks are not corrected.
+    found: Vec<Option<Comparison>>,
     pace: Pace,
     progress: Progress,
     tally: Tally,
@@ -93,6 +97,15 @@ fn all_unknown(alloc: Global, meters: usize) -> Result<Vec<bool>, AllocError> {
         known.push(false)?;
     }
     Ok(known)
+}
+
+/// The clock of none of this many meters is known.
+fn no_clocks(alloc: Global, meters: usize) -> Result<Vec<Option<Comparison>>, AllocError> {
+    let mut found = Vec::with_capacity(alloc, meters)?;
+    for _ in 0..meters {
+        found.push(None)?;
+    }
+    Ok(found)
 }
 
 /// Adds the addresses of a place to a schedule.
@@ -157,6 +170,10 @@ impl<
             Err(error) => return Err(CollectFault::Wait(error)),
         };
         let now = moment(rt)?;
+        let clocks = match collection.purpose {
+            Purpose::Clock(Some(_)) => meters.len(),
+            _ => 0,
+        };
         Ok(Round {
             rt,
             collection,
@@ -167,6 +184,7 @@ impl<
             wires,
             schedule: Schedule::new(alloc),
             are_known: all_unknown(alloc, meters.len())?,
+            found: no_clocks(alloc, clocks)?,
             pace: Pace::new(now),
             progress: Progress::new(shows, now),
             tally: Tally::new(),
@@ -222,6 +240,19 @@ impl<
         }
     }
 
+    /// Takes how the clock of the meter with this number was found, if it waits for its correction. A meter that fails in between has to
+    /// show its clock anew.
+    fn take_found(&mut self, number: usize) -> Option<Comparison> {
+        self.found.get_mut(number)?.take()
+    }
+
+    /// Keeps how the clock of the meter with this number was found.
+    fn keep_found(&mut self, number: usize, found: Comparison) {
+        if let Some(kept) = self.found.get_mut(number) {
+            *kept = Some(found);
+        }
+    }
+
     /// Has a meter that failed wait again if it has another address or may be tried again; otherwise counts it. It has to show its text
     /// anew.
     fn fail(
@@ -257,10 +288,10 @@ impl<
         Ok((order, job))
     }
 
-    /// What comes next for a meter: its text is requested if one is expected and was not shown yet; then it is polled, or attributes are
-    /// requested.
+    /// What comes next for a meter: its text is requested if one is expected and was not shown yet; then it is polled, attributes are
+    /// requested, or its clock is read or corrected.
     fn order(
-        &self,
+        &mut self,
         number: usize,
         meter: &Meter<'a>,
     ) -> Result<(Order<'r, R>, Numbered<MeterJob>), MeterFault> {
@@ -275,6 +306,11 @@ impl<
             Purpose::Poll(folder) => self.poll_order(number, meter, folder),
             Purpose::Get(_, names) => {
                 let job = order.ask_values(self.rt, meter, names)?;
+                Ok((order, job))
+            }
+            Purpose::Clock(_) => {
+                let found = self.take_found(number);
+                let job = order.ask_clock(self.rt, meter, found, self.wires.second())?;
                 Ok((order, job))
             }
         }
@@ -405,6 +441,57 @@ impl<
         Ok(Finished::Nothing)
     }
 
+    /// Prints the clock of a meter, and what was done to it.
+    fn print_clock(
+        &mut self,
+        number: usize,
+        found: Comparison,
+        done: Correction,
+        after: Option<Comparison>,
+    ) -> Result<(), CollectFault<'a>> {
+        let clock = MeterClock {
+            meter: self.name_of(number),
+            found,
+            done,
+            after,
+        };
+        let mut text = Vec::new(self.rt.alloc());
+        self.texts.append_clock(&mut text, &clock)?;
+        if self.output.write_out(text.as_slice()).is_err() || self.output.flush_out().is_err() {
+            return Err(CollectFault::Output);
+        }
+        self.tally.rows = self.tally.rows.saturating_add(1);
+        Ok(())
+    }
+
+    /// Takes the clock that a meter showed at this second of the system's, or after it was corrected. One that is off waits for its
+    /// correction; any other is printed. If it could not be read after it was corrected, what was done is printed all the same.
+    fn take_clock(
+        &mut self,
+        number: usize,
+        found: Option<Comparison>,
+        script: &ClockScript,
+        second: u64,
+    ) -> Result<Finished, CollectFault<'a>> {
+        let done = script.done();
+        match (found, clock_of(script, second)) {
+            (None, Ok(now)) if self.collection.purpose.corrects(&now) => {
+                self.keep_found(number, now);
+                self.schedule.go_on(number)?;
+                return Ok(Finished::Nothing);
+            }
+            (None, Ok(now)) => self.print_clock(number, now, done, None)?,
+            (Some(found), Ok(after)) => self.print_clock(number, found, done, Some(after))?,
+            (Some(found), Err(fault)) if done != Correction::Nothing => {
+                self.print_clock(number, found, done, None)?;
+                return Ok(Finished::Failed(fault));
+            }
+            (_, Err(fault)) => return Ok(Finished::Failed(fault)),
+        }
+        self.tally.done = self.tally.done.saturating_add(1);
+        Ok(Finished::Nothing)
+    }
+
     /// The second of the system's clock in the round in which the last answer came to a meter's requests that are done: over HDLC their
     /// last message requests the connection's end at that answer, and over the wrapper they end with it.
     fn answered(&self, number: usize, seconds: Seconds) -> u64 {
@@ -431,6 +518,10 @@ impl<
             MeterJob::Values(job) => {
                 let second = self.answered(number, seconds);
                 self.print_values(number, &**job, second)
+            }
+            MeterJob::Clock(job) => {
+                let second = self.answered(number, seconds);
+                self.take_clock(number, order.found, job.script(), second)
             }
         }
     }

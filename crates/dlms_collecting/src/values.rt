@@ -1,10 +1,13 @@
-//! The values of attributes that a meter gave.
+//! The values of attributes that a meter gave, and its clock.
+
+ghost use Rattle.dlms_collecting.specs.Clocks.{IsClockOf};
 
 use crate::fault::{MeterFault, Refusal, nth_name};
 use dlms_call::CallFault;
 use dlms_client::{Answer, Fault};
 use dlms_data::Descriptor;
-use dlms_inquiries::Reading;
+use dlms_ends::RunFault;
+use dlms_inquiries::{ClockScript, Comparison, Correction, Reading};
 use std::alloc::{AllocError, Global};
 
 /// The value of an attribute of a meter.
@@ -23,10 +26,24 @@ pub struct MeterValue<'a> {
     pub second: u64,
 }
 
-/// How values are printed.
+/// The clock of a meter, and what was done to it.
+#[derive(Clone, Copy)]
+pub struct MeterClock<'a> {
+    /// The meter's name in the list.
+    pub meter: &'a str,
+    pub found: Comparison,
+    pub done: Correction,
+    /// The clock after it was corrected, if it was and could be read.
+    pub after: Option<Comparison>,
+}
+
+/// How values and clocks are printed.
 pub trait ValueText {
     /// Appends the line of a value, with its line feed. Returns `false`, and may have appended a part of it, if the encoding is no value.
     fn append_value(&self, text: &mut Vec<u8>, value: &MeterValue<'_>) -> Result<bool, AllocError>;
+
+    /// Appends the line of a clock, with its line feed.
+    fn append_clock(&self, text: &mut Vec<u8>, clock: &MeterClock<'_>) -> Result<(), AllocError>;
 }
 
 /// Why an attribute was not given, if it was not.
@@ -36,6 +53,18 @@ fn refusal(reading: &Reading) -> Option<Refusal> {
         (Some(_), Answer::Value) => None,
         (Some(_), Answer::Result(code)) => Some(Refusal::Result(code)),
         (Some(_), Answer::Denied(denial)) => Some(Refusal::Denied(denial)),
+    }
+}
+
+/// What the clock of a meter shows at this second of the system's, or why its time was not given or not set. The script is over.
+pub fn clock_of(script: &ClockScript, second: u64) -> Result<Comparison, MeterFault>
+    ensures { IsClockOf script.now second result }
+{
+    match script.answer() {
+        Some(Answer::Value) => Ok(Comparison::of(script.shown(), second)),
+        Some(Answer::Result(code)) => Err(MeterFault::Refused(0, Refusal::Result(code))),
+        Some(Answer::Denied(denial)) => Err(MeterFault::Refused(0, Refusal::Denied(denial))),
+        None => Err(MeterFault::Other(RunFault::Io)),
     }
 }
 

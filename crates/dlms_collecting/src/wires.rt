@@ -235,6 +235,13 @@ impl<C: Drop, T: Drop> Wires<C, T> {
         })
     }
 
+    /// The second of the system's clock in this round, counted from 1970 on.
+    pub fn second(&self) -> u64
+        ensures { result ≡ self.now.second }
+    {
+        self.second
+    }
+
     /// How many polls run.
     pub fn running(&self) -> usize {
         self.running.len()
