@@ -1,10 +1,10 @@
 //! Many meters, by a list.
 
 use crate::Fault;
-use dlms_asking::Comparison;
+use dlms_asking::{append_correction, append_csv, correction_word};
 use dlms_collecting::{
-    CollectFault, Collection, Defaults, FailedMeter, FaultText, ListFault, MeterFailure,
-    MeterValue, Purpose, Refusal, RowFormat, ValueText, collect,
+    CollectFault, Collection, Defaults, FailedMeter, FaultText, ListFault, MeterClock,
+    MeterFailure, MeterValue, Purpose, Refusal, RowFormat, ValueText, collect,
 };
 use dlms_printing::{Teller, append_fault_json};
 use dlms_text::{Name, written_name};
@@ -20,16 +20,13 @@ use std::time::Clock;
 /// The most attributes that are requested of a meter.
 const MOST_NAMES: usize = 16;
 
-/// The attribute that is requested of each meter if clocks are compared.
-const CLOCK_NAME: &str = "clock";
-
 /// The messages of `poll` and `get`, and values or clocks, as text or as JSON.
 #[derive(Drop)]
 struct MeterTexts {
     alloc: Global,
     format: OutputFormat,
-    /// Whether a value is a clock, which is compared with the system's.
-    compares: bool,
+    /// Whether clocks are corrected.
+    corrects: bool,
 }
 
 /// Appends a message after a meter's name, its lines joined to one.
@@ -145,40 +142,50 @@ impl MeterTexts {
     }
 }
 
-/// Appends the line of a meter's clock, compared with the system's.
-fn append_comparison(
-    alloc: Global,
-    text: &mut Vec<u8>,
-    format: OutputFormat,
-    value: &MeterValue<'_>,
-) -> Result<(), AllocError> {
-    let found = Comparison::of(value.value, value.second);
-    if format == OutputFormat::Text {
-        text.extend_from_slice(value.meter.as_bytes())?;
-        text.extend_from_slice(b",")?;
-        found.append_csv(text)?;
-        return text.extend_from_slice(b"\n");
+/// Appends what was done to a clock, and its time and its difference then, as three fields of CSV. The last two are empty if they are
+/// not known.
+fn append_done(text: &mut Vec<u8>, clock: &MeterClock<'_>) -> Result<(), AllocError> {
+    text.extend_from_slice(b",")?;
+    text.extend_from_slice(correction_word(clock.done).as_bytes())?;
+    text.extend_from_slice(b",")?;
+    match clock.after {
+        Some(after) => append_csv(text, &after),
+        None => text.extend_from_slice(b","),
     }
-    let mut fields = Vec::new(alloc);
-    found.append_fields(&mut fields)?;
-    text.extend_from_slice(b"{\"name\":\"")?;
-    text.extend_from_slice(value.meter.as_bytes())?;
-    text.extend_from_slice(b"\",")?;
-    text.extend_from_slice(without_brace(fields.as_slice()))?;
-    text.extend_from_slice(b",\"done\":\"nothing\"}\n")
+}
+
+/// Appends the line of a meter's clock, compared with the system's. If clocks are corrected, it also has what was done.
+fn append_line(
+    text: &mut Vec<u8>,
+    clock: &MeterClock<'_>,
+    corrects: bool,
+) -> Result<(), AllocError> {
+    text.extend_from_slice(clock.meter.as_bytes())?;
+    text.extend_from_slice(b",")?;
+    append_csv(text, &clock.found)?;
+    if corrects {
+        append_done(text, clock)?;
+    }
+    text.extend_from_slice(b"\n")
 }
 
 impl ValueText for MeterTexts {
     fn append_value(&self, text: &mut Vec<u8>, value: &MeterValue<'_>) -> Result<bool, AllocError> {
-        if self.compares {
-            append_comparison(self.alloc, text, self.format, value)?;
-            return Ok(true);
-        }
         let Some(told) = self.told(value)? else {
             return Ok(false);
         };
         append_told(text, self.format, value, told.as_slice())?;
         Ok(true)
+    }
+
+    fn append_clock(&self, text: &mut Vec<u8>, clock: &MeterClock<'_>) -> Result<(), AllocError> {
+        if self.format == OutputFormat::Text {
+            return append_line(text, clock, self.corrects);
+        }
+        text.extend_from_slice(b"{\"name\":\"")?;
+        text.extend_from_slice(clock.meter.as_bytes())?;
+        text.extend_from_slice(b"\",")?;
+        append_correction(text, &clock.found, clock.done, clock.after)
     }
 }
 
@@ -230,15 +237,7 @@ fn names_of<'a>(alloc: Global, text: Option<&'a str>) -> Result<Vec<Name>, Fault
     Ok(names)
 }
 
-/// The names of the attributes that are requested, if meters are not polled.
-fn wanted_names<'a>(options: &CollectOptions<'a>) -> Option<&'a str> {
-    if options.clock {
-        return Some(CLOCK_NAME);
-    }
-    options.get
-}
-
-/// Polls the meters of a list, whose text this is, or requests these attributes of them.
+/// Polls the meters of a list, whose text this is, or requests these attributes of them, or compares and corrects their clocks.
 fn collect_text<
     'a,
     H: Net + Files<File = File> + Clock + AllocGlobal + RandomSource,
@@ -255,9 +254,10 @@ fn collect_text<
 ) -> Result<(), Fault<'a>> {
     let collection = Collection {
         list: text,
-        purpose: match wanted_names(options) {
-            Some(written) => Purpose::Get(written, names),
-            None => Purpose::Poll(options.readings.unwrap_or("")),
+        purpose: match (options.clock, options.get) {
+            (true, _) => Purpose::Clock(options.set.then_some(options.threshold)),
+            (false, Some(written)) => Purpose::Get(written, names),
+            (false, None) => Purpose::Poll(options.readings.unwrap_or("")),
         },
         defaults: Defaults {
             client: options.client.and_then(|sap| u8::try_from(sap).ok()),
@@ -274,7 +274,7 @@ fn collect_text<
     let texts = MeterTexts {
         alloc: host.alloc(),
         format: options.format,
-        compares: options.clock,
+        corrects: options.set,
     };
     match collect(host, &collection, &texts, output, errors, is_terminal) {
         Ok(tally) if tally.is_done() => Ok(()),
@@ -283,7 +283,7 @@ fn collect_text<
     }
 }
 
-/// Polls the meters of the list in a file, many at once, or requests attributes of them.
+/// Polls the meters of the list in a file, many at once, or requests attributes of them, or compares and corrects their clocks.
 #[inline(never)]
 pub fn run_collect<
     'a,
@@ -297,7 +297,7 @@ pub fn run_collect<
     output: &mut W,
     errors: &mut E,
 ) -> Result<(), Fault<'a>> {
-    let names = names_of(host.alloc(), wanted_names(options))?;
+    let names = names_of(host.alloc(), options.get)?;
     match fs::read_to_string(host, options.list) {
         Ok(text) => {
             let told = collect_text(
