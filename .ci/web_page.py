@@ -12,7 +12,7 @@ links     a link carries the text in its fragment, and the server sees none of i
 filters   search, service, object, errors; what is left
 controls  each has a name, all are reached by the Tab key
 plain     a browser without 64-bit memory gets a message
-large     a log of MB: the module's memory does not grow with it; half of the program's speed
+large     a log of MB: the module's memory does not grow with it; half of the program's speed, each the best of four runs by turns
 pictures  screenshots in light, dark and at 390 points"""
 import base64
 import glob
@@ -494,19 +494,21 @@ def large(browser, megabytes):
             with open(log, "wb") as it:
                 for _ in range(size * 1_000_000 // len(line) + 1):
                     it.write(line)
-            begun = time.time()
-            with open(os.devnull, "wb") as nothing:
-                subprocess.run([DLMS, "explain", str(log)], stdout=nothing, check=True)
-            program = log.stat().st_size / 1e6 / (time.time() - begun)
-            browser.go(PAGE.as_uri())
-            browser.run("document.getElementById('hex').checked = false; 0")
-            told = browser.open_file(log)
-            page = log.stat().st_size / 1e3 / told["ms"]
-            memory.append(told["memory"])
-            check(told["code"] == 0, f"a log of {size} MB: code {told['code']}")
-            print(f"large: {size} MB at {page:.1f} MB/s in the worker, {log.stat().st_size / 1e3 / told['whole']:.1f} MB/s until it is shown, the program {program:.1f}; "
+            megabytes_read, program, page = log.stat().st_size / 1e6, 0, 0
+            for _ in range(4):
+                begun = time.time()
+                with open(os.devnull, "wb") as nothing:
+                    subprocess.run([DLMS, "explain", str(log)], stdout=nothing, check=True)
+                program = max(program, megabytes_read / (time.time() - begun))
+                browser.go(PAGE.as_uri())
+                browser.run("document.getElementById('hex').checked = false; 0")
+                told = browser.open_file(log)
+                page = max(page, megabytes_read * 1e3 / told["ms"])
+                memory.append(told["memory"])
+                check(told["code"] == 0, f"a log of {size} MB: code {told['code']}")
+            print(f"large: {size} MB at {page:.1f} MB/s in the worker, {megabytes_read * 1e3 / told['whole']:.1f} MB/s until it is shown, the program {program:.1f}; "
                   f"the module's memory {told['memory'] / 1e6:.1f} MB, {told['frames']} frames")
-        check(memory[0] == memory[1], f"the module's memory grows with the log: {memory}")
+        check(min(memory) == max(memory), f"the module's memory grows with the log: {memory}")
         check(page * 2 >= program, f"the page has {page:.1f} MB/s, the program {program:.1f}")
 
 
