@@ -72,7 +72,8 @@ pub record AreAnswers (accept named answer again release : List ℕ) (rows : Lis
   pub five : IsAnswer release
 
 -- what the law of filed rows speaks of: a new poll that was started on a seat, and handed back as done; its rows were filed
-pub record IsFiledOnce (number : ℕ) (job : Numbered MeterJob) (asked asked' : Option (List PlaceCall))
+pub record IsFiledOnce (number : ℕ) (job : Numbered MeterJob)
+    (asked asked' : Option (List PlaceCall))
     (printed printed' errors errors' : Printed) (before : List Row) : Type 0 where
   pub old : FleetValue (Numbered MeterJob)
   pub new : FleetValue (Numbered MeterJob)

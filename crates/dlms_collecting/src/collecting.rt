@@ -53,7 +53,8 @@ impl<'a> Purpose<'a> {
 
     /// Whether a clock that was found so is corrected.
     pub fn corrects(&self, found: &Comparison) -> bool
-        ensures { (ahead : Option ℤ) × IsAhead found.now ahead × (result ≡ corrects self.now ahead) }
+        ensures { (ahead : Option ℤ) × IsAhead found.now ahead
+            × (result ≡ corrects self.now ahead) }
     {
         let ahead = found.ahead();
         match self {
@@ -237,9 +238,9 @@ fn run_round<
 
 /// Polls the meters of a list side by side, and files the rows of each into `FOLDER/NAME.csv` by the rules of `poll`: the new rows are
 /// printed in the wanted format before their file is put. Or requests attributes of them, or compares and corrects their clocks, and
-/// prints the values or clocks as `texts` has them. A meter of which a text is expected shows it before. After a round a line on the errors reports each meter that failed, with the text
-/// that `texts` has for it. Progress is shown on the errors if `is_terminal`: they are a terminal, and the rows do not go to it. Returns
-/// the result of the last round.
+/// prints the values or clocks as `texts` has them. A meter of which a text is expected shows it before. After a round a line on the
+/// errors reports each meter that failed, with the text that `texts` has for it. Progress is shown on the errors if `is_terminal`: they
+/// are a terminal, and the rows do not go to it. Returns the result of the last round.
 pub fn collect<
     'a,
     R: Net + Files<File = File> + Clock + AllocGlobal + RandomSource,

@@ -44,7 +44,8 @@ is_counted bytes = is_end (field_at bytes)
 -- 2.16.756.5.8, the names of DLMS UA: kind 1 application contexts, kind 2 mechanisms
 abbrev pub object_number : List ℕ → ℕ → Option ℕ
 object_number (a ∷ b ∷ c ∷ d ∷ e ∷ found ∷ number ∷ []) kind =
-    if (a == 0x60) && ((b == 0x85) && ((c == 0x74) && ((d == 0x05) && ((e == 0x08) && (found == kind)))))
+    if (a == 0x60) && ((b == 0x85) && ((c == 0x74)
+    && ((d == 0x05) && ((e == 0x08) && (found == kind)))))
     then Some number else None
 object_number _ kind = None
 
@@ -62,7 +63,8 @@ requires_authentication _ = None
 
 -- the user information among these fields, an octet-string, which is an initiate request or response
 abbrev pub HasInitiate : List ℕ → Option (List ℕ) → Type 0
-HasInitiate fields octets = (user : Option (List ℕ)) × (IsFound 0xbe fields user × (octets ≡ option_and_then title_in user))
+HasInitiate fields octets =
+    (user : Option (List ℕ)) × (IsFound 0xbe fields user × (octets ≡ option_and_then title_in user))
 
 -- the same, in the fields of an APDU that is one field
 abbrev pub InitiateIn : Option (ℕ × List ℕ × List ℕ) → Option (List ℕ) → Type 0

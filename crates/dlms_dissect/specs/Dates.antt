@@ -16,7 +16,8 @@ is_day month day weekday =
 
 abbrev pub is_hour : ℕ → ℕ → ℕ → ℕ → Bool
 is_hour hour minute second hundredths =
-    is_within 0 23 0xff hour && (is_within 0 59 0xff minute && (is_within 0 59 0xff second && is_within 0 99 0xff hundredths))
+    is_within 0 23 0xff hour && (is_within 0 59 0xff minute
+    && (is_within 0 59 0xff second && is_within 0 99 0xff hundredths))
 
 -- The year is any number. In the month 0xFE begins and 0xFD ends daylight saving, in the day 0xFE is the last one of the month
 -- and 0xFD the one before it. Every status is one.

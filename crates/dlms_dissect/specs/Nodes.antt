@@ -54,10 +54,12 @@ text_behind before bytes = option_map (λ l. alone (before + l.octets + l.number
 abbrev pub fixed_of : ℕ → Option ℕ
 fixed_of tag =
     if (tag == 0) || (tag == 255) then Some 0
-    else if (tag == 3) || ((tag == 13) || ((tag == 15) || ((tag == 17) || ((tag == 22) || ((tag == 28) || (tag == 31))))))
+    else if (tag == 3) || ((tag == 13) || ((tag == 15)
+    || ((tag == 17) || ((tag == 22) || ((tag == 28) || (tag == 31))))))
     then Some 1
     else if (tag == 16) || ((tag == 18) || ((tag == 29) || (tag == 32))) then Some 2
-    else if (tag == 5) || ((tag == 6) || ((tag == 23) || ((tag == 27) || ((tag == 30) || (tag == 33)))))
+    else if (tag == 5) || ((tag == 6) || ((tag == 23)
+    || ((tag == 27) || ((tag == 30) || (tag == 33)))))
     then Some 4
     else if tag == 26 then Some 5
     else if (tag == 20) || ((tag == 21) || (tag == 24)) then Some 8

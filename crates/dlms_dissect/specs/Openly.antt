@@ -57,8 +57,10 @@ Leaves known steps octets count =
 
 abbrev pub is_open_tag : ℕ → Bool
 is_open_tag tag =
-    (tag == 0x80) || ((tag == 0x88) || ((tag == 0x89) || ((tag == 0x8a) || ((tag == 0x8b) || ((tag == 0xa1) || ((tag == 0xa2) || ((tag == 0xa3)
-    || ((tag == 0xa4) || ((tag == 0xa5) || ((tag == 0xa6) || ((tag == 0xa7) || ((tag == 0xa8) || (tag == 0xa9)))))))))))))
+    (tag == 0x80) || ((tag == 0x88) || ((tag == 0x89)
+    || ((tag == 0x8a) || ((tag == 0x8b) || ((tag == 0xa1) || ((tag == 0xa2) || ((tag == 0xa3)
+    || ((tag == 0xa4) || ((tag == 0xa5) || ((tag == 0xa6)
+    || ((tag == 0xa7) || ((tag == 0xa8) || (tag == 0xa9)))))))))))))
 
 -- these fields come first, and are shown as they are
 abbrev pub StandOpen : List ℕ → List (ℕ × List ℕ) → List ℕ → Type 0

@@ -60,9 +60,11 @@ is_repeated f number info = is_again f.next number && is_apdu (behind_llc (Some 
 -- is the frame before once more.
 abbrev pub is_certain : {A : Type 0} → Talk A → Option Side → Numbers → List ℕ → Bool
 is_certain t (Some Client) n info =
-    (is_known t.client.next n.send && is_known t.meter.next n.receive) || is_repeated t.client n.send info
+    (is_known t.client.next n.send && is_known t.meter.next n.receive)
+    || is_repeated t.client n.send info
 is_certain t (Some Meter) n info =
-    is_known t.client.next n.receive && (is_known t.meter.next n.send || is_again t.meter.next n.send)
+    is_known t.client.next n.receive && (is_known t.meter.next n.send
+    || is_again t.meter.next n.send)
 is_certain t None n info = false
 
 -- Of the client's frames those are taken that the meter takes. After a whole APDU of the client no older answer is awaited.

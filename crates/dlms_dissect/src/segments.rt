@@ -70,7 +70,12 @@ impl<A: Allocator> Model for Segments<A> {
 
     ghost Value = { Following };
 
-    ghost view = { λ s. record { next = s.next; progress = s.progress; count = s.count; apdu = s.apdu.items } };
+    ghost view = { λ s. record {
+      next = s.next;
+      progress = s.progress;
+      count = s.count;
+      apdu = s.apdu.items;
+    } };
 }
 
 /// The number after this one.

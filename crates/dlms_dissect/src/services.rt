@@ -84,7 +84,10 @@ impl<A: Allocator + Copy> Services<A> {
     /// Takes the block of a request.
     fn put(&mut self, alloc: A, request: &Request<'_, A>) -> Option<Joined>
         ensures joined { result ≡ put_joined self.old.transfers request.now }
-        ensures after { self.new ≡ record self.old { transfers = transfers_behind self.old.transfers request.now } }
+        ensures after { self.new ≡ record self.old {
+          transfers =
+              transfers_behind self.old.transfers request.now;
+        } }
     {
         match request {
             Request::GetNormal { .. } => {
@@ -148,7 +151,10 @@ impl<A: Allocator + Copy> Services<A> {
         ensures joined { IfOk result
             (λ joined. joined ≡ got_joined self.old.transfers response.now) }
         ensures after { IfOk result
-            (λ joined. self.new ≡ record self.old { transfers = transfers_behind_response self.old.transfers self.old.asked response.now }) }
+            (λ joined. self.new ≡ record self.old {
+              transfers =
+                  transfers_behind_response self.old.transfers self.old.asked response.now;
+            }) }
         ensures memory { OnErr result (JoinsBlock self.old.transfers response.now) }
     {
         let Response::GetBlock {

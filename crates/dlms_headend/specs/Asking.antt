@@ -60,7 +60,8 @@ last_second until = unwrap_or until LAST_SECOND
 
 -- both are seconds of the clock
 abbrev pub AreSeconds : (after until : Option ℕ) → Type 0
-AreSeconds after until = IfSome after (λ second. second ≤ LAST_SECOND) × IfSome until (λ second. second ≤ LAST_SECOND)
+AreSeconds after until =
+    IfSome after (λ second. second ≤ LAST_SECOND) × IfSome until (λ second. second ≤ LAST_SECOND)
 
 abbrev pub buffer_bytes : Value → List ℕ
 buffer_bytes value = request_bytes (get_normal invoke buffer (Some (record {

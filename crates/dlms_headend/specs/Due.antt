@@ -59,7 +59,8 @@ pub record Requests : Type 0 where
 pub data AsksFor (r : Requests) (apdus : List (List ℕ)) (apdu : List ℕ) : Type 0 where
   Associates : apdus ≡ [] → apdu ≡ r.association → AsksFor r apdus apdu
   Names : r.columns ≡ Asked → HasAccepted apdus → apdu ≡ columns_bytes → AsksFor r apdus apdu
-  Gets : (joined : List ℕ) → HasBlocks r.columns apdus 0 joined → IsBufferRequest r.after r.until apdu
+  Gets : (joined : List ℕ) → HasBlocks r.columns apdus 0 joined
+      → IsBufferRequest r.after r.until apdu
       → AsksFor r apdus apdu
   GetsBlock : (taken : ℕ) (joined : List ℕ) → 0 < taken → HasBlocks r.columns apdus taken joined
       → apdu ≡ next_bytes taken

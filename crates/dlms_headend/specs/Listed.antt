@@ -9,7 +9,8 @@ use Rattle.dlms_headend.specs.declared.listed.ColumnList.{ColumnList}
 -- the number of columns that it lists; none if it is no such answer
 abbrev pub is_listing : List ℕ → Bool
 is_listing answer =
-    (get_or answer 0 0 == 0xC4) && (get_or answer 1 0 == 1) && (get_or answer 3 0 == 0) && (get_or answer 4 0 == 1) && nat_lt
+    (get_or answer 0 0 == 0xC4) && (get_or answer 1 0 == 1) && (get_or answer 3 0 == 0)
+    && (get_or answer 4 0 == 1) && nat_lt
     (get_or answer 5 0) 0x80
     && (length answer == 6 + 18 * get_or answer 5 0)
 

@@ -168,7 +168,8 @@ pub record HasPolled (columns : Columns) (apdus : List (List ℕ)) (rows : List 
 pub data Asks (plan : PlanValue) (apdus : List (List ℕ)) (apdu : List ℕ) : Type 0 where
   associates : apdus ≡ [] → apdu ≡ association_bytes plan → Asks plan apdus apdu
   names : plan.columns ≡ Asked → HasAccepted apdus → apdu ≡ columns_bytes → Asks plan apdus apdu
-  gets : (joined : List ℕ) → HasBlocks plan.columns apdus 0 joined → IsBufferRequest plan.after plan.until apdu
+  gets : (joined : List ℕ) → HasBlocks plan.columns apdus 0 joined
+      → IsBufferRequest plan.after plan.until apdu
       → Asks plan apdus apdu
   goes_on : (taken : ℕ) (joined : List ℕ) → 0 < taken → HasBlocks plan.columns apdus taken joined
       → apdu ≡ next_bytes taken → Asks plan apdus apdu

@@ -17,7 +17,8 @@ use std::alloc::Allocator;
 #[tactic(auto, using(crate::proofs::Values::four_in_others, crate::proofs::Values::four_in_parts))]
 fn four<A: Allocator>(value: &Data<A>) -> Option<(&Data<A>, &Data<A>, &Data<A>, &Data<A>)>
     ensures { option_map
-        (λ x. (value_of x.0.now, value_of x.1.now, value_of x.2.now, value_of x.3.now)) result ≡ four_in
+        (λ x. (value_of x.0.now, value_of x.1.now, value_of x.2.now, value_of x.3.now)) result
+        ≡ four_in
         (value_of value.now) }
 {
     let Data::Structure(items) = value else {

@@ -45,7 +45,12 @@ impl<C: Carrier + Drop, A: Allocator> Model for CarrierPoll<C, A> {
 
     ghost Value = { CarrierPollValue C };
 
-    ghost view = { λ p. record { terms = terms_of p.terms; carrier = p.carrier; course = p.course; talk = p.talk } };
+    ghost view = { λ p. record {
+      terms = terms_of p.terms;
+      carrier = p.carrier;
+      course = p.course;
+      talk = p.talk;
+    } };
 
     ghost invariant = { λ p. AreSeconds p.terms.after p.terms.until };
 }
@@ -54,7 +59,8 @@ impl<C: Carrier + Drop, A: Allocator> Model for CarrierPoll<C, A> {
 fn due(terms: &PollTerms, stage: Stage) -> Option<Request>
     requires { AreSeconds terms.now.after terms.now.until }
     ensures due { MatchOption result (stage ≡ Leaving) (λ request.
-        IsDueAt (requests_of (terms_of terms.now)).association terms.now.after terms.now.until stage request.items) }
+        IsDueAt (requests_of (terms_of terms.now)).association
+        terms.now.after terms.now.until stage request.items) }
     ensures short { IfSome result (λ request. length request.items ≤ 128) }
 {
     due_apdu(terms.sent_secret(), terms.after, terms.until, stage)
@@ -119,7 +125,8 @@ impl<C: Carrier + Drop, A: Allocator + Copy> CarrierPoll<C, A> {
             → Feeds C.steps C.apdu_of apdus self.old octets.now result.count result.result self.new }
         // Memory is wanting only for an answer to a GET of the buffer that needs some; never for a request.
         ensures memory { (apdus : List (List ℕ)) → Fits self.old apdus → self.old.course ≡ Running
-            → result.result ≡ Err Memory → Needs self.old.terms.columns apdus (C.apdu_of self.new.carrier) }
+            → result.result ≡ Err Memory → Needs self.old.terms.columns apdus
+            (C.apdu_of self.new.carrier) }
     {
         match self.course {
             PollCourse::Connecting => self.read(octets),
@@ -143,7 +150,8 @@ impl<C: Carrier + Drop, A: Allocator + Copy> CarrierPoll<C, A> {
         ensures hears { (apdus : List (List ℕ)) → Fits self.old apdus
             → Hears C.steps C.apdu_of apdus self.old octets.now result.count result.result self.new }
         ensures memory { (apdus : List (List ℕ)) → Fits self.old apdus
-            → result.result ≡ Err Memory → Needs self.old.terms.columns apdus (C.apdu_of self.new.carrier) }
+            → result.result ≡ Err Memory → Needs self.old.terms.columns apdus
+            (C.apdu_of self.new.carrier) }
     {
         let fed = self.carrier.feed(octets);
         PollHeard {

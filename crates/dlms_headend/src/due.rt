@@ -19,7 +19,8 @@ const SIZE: u16 = 1200;
 /// The association request with this secret of low-level security, or without one at lowest-level security.
 pub fn association(secret: Option<&[u8]>) -> Request
     requires { IfSome secret (λ secret. length secret.now ≤ 16) }
-    ensures bytes { result.items ≡ association_with (option_map (λ secret. secret.now) secret.entry) }
+    ensures bytes { result.items ≡ association_with
+        (option_map (λ secret. secret.now) secret.entry) }
     ensures short { length result.items ≤ 128 }
 {
     match secret {
@@ -51,7 +52,8 @@ pub fn due_apdu(
     requires secret { IfSome secret (λ secret. length secret.now ≤ 16) }
     requires seconds { AreSeconds after until }
     ensures due { MatchOption result (stage ≡ Leaving) (λ request.
-        IsDueAt (association_with (option_map (λ secret. secret.now) secret.entry)) after until stage request.items) }
+        IsDueAt (association_with (option_map (λ secret. secret.now) secret.entry))
+        after until stage request.items) }
     ensures short { IfSome result (λ request. length request.items ≤ 128) }
 {
     match stage {

@@ -33,7 +33,8 @@ pub struct Plan {
 impl Plan {
     /// The secret that the client sends; none if the client has none.
     pub(crate) fn sent_secret(&self) -> Option<&[u8]>
-        ensures secret { option_map (λ secret. secret.now) result ≡ sent_secret self.now.client self.now.secret.items }
+        ensures secret { option_map (λ secret. secret.now) result
+            ≡ sent_secret self.now.client self.now.secret.items }
         ensures short { IfSome result (λ secret. length secret.now ≤ 16) }
     {
         if self.client.has_secret() {
@@ -60,7 +61,8 @@ pub struct PollTerms {
 impl PollTerms {
     /// The secret that is sent; none at lowest-level security.
     pub(crate) fn sent_secret(&self) -> Option<&[u8]>
-        ensures secret { option_map (λ secret. secret.now) result ≡ option_map (λ secret. secret.items) self.now.secret }
+        ensures secret { option_map (λ secret. secret.now) result
+            ≡ option_map (λ secret. secret.items) self.now.secret }
         ensures short { IfSome result (λ secret. length secret.now ≤ 16) }
     {
         match &self.secret {

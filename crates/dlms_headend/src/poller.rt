@@ -42,7 +42,12 @@ impl<A: Allocator> Model for Poller<A> {
 
     ghost Value = { PollerValue };
 
-    ghost view = { λ p. record { plan = plan_of p.plan; link = p.link; course = p.course; talk = p.talk } };
+    ghost view = { λ p. record {
+      plan = plan_of p.plan;
+      link = p.link;
+      course = p.course;
+      talk = p.talk;
+    } };
 
     ghost invariant = { λ p. IsStanding p.plan p.link p.course };
 }

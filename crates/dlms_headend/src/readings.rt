@@ -155,7 +155,8 @@ impl<A: Allocator + Copy> Readings<A> {
 
     /// Appends the lines of all rows but the first so many to a text.
     pub fn append_text(&self, text: &mut String<A>, from: usize) -> Result<(), AllocError>
-        ensures text { OnOk result (string_bytes text.new ≡ string_bytes text.old ++ text_of (drop from self.now)) }
+        ensures text { OnOk result (string_bytes text.new
+            ≡ string_bytes text.old ++ text_of (drop from self.now)) }
         ensures memory { OnErr result (0 < length (drop from self.now)) }
         ensures readings { AreReadings self.now }
     {

@@ -47,7 +47,12 @@ impl<S> Model for AskJob<S> {
 
     ghost Value = { AskValue S };
 
-    ghost view = { λ job. record { client = job.client; script = job.script; left = job.left; is_over = job.is_over } };
+    ghost view = { λ job. record {
+      client = job.client;
+      script = job.script;
+      left = job.left;
+      is_over = job.is_over;
+    } };
 }
 
 /// The guard that is in this box.

@@ -24,7 +24,8 @@ pub trait Script {
 
     /// The script before an answer, the answer, the encoding that came with it, the request that follows, and the script after it. It is
     /// a relation: memory may be refused.
-    ghost follows: { Self → Option Answer → List ℕ → Result (Option Question) AllocError → Self → Type 0 };
+    ghost follows: { Self → Option Answer → List ℕ → Result (Option Question) AllocError → Self
+        → Type 0 };
 
     /// Takes the answer to the request before, and the encoding of the value if it is one. Returns the next request, or none if there is
     /// no more. At first there is no answer.

@@ -50,7 +50,8 @@ SayStations _ _ = ⊥
 -- why the value with this number says no station
 abbrev pub IsRefusedValue : ℕ → Data → StationsFault → Type 0
 IsRefusedValue n d fault = ((fault ≡ Other) × (as_table d ≡ None))
-    ⊎ ((why : SettingsFault) × (fault ≡ At n why) × (t : Members) × (as_table d ≡ Some t) × IsRefusedStation t why)
+    ⊎ ((why : SettingsFault) × (fault ≡ At n why) × (t : Members) × (as_table d ≡ Some t)
+    × IsRefusedStation t why)
 
 -- why values say no stations: there are too many, or one of them, counted from 1, is refused
 abbrev pub IsRefusedList : List Data → StationsFault → Type 0
@@ -71,7 +72,8 @@ pub record SaysKeyring (t : Members) (ss : List Station) : Type 0 where
 abbrev pub IsRefusedKeyring : Members → StationsFault → Type 0
 IsRefusedKeyring t fault =
     ((fault ≡ Other) × ((size_of t ≢ 1) ⊎ (option_and_then as_array (station_at t) ≡ None)))
-    ⊎ ((values : List Data) × (station_at t ≡ Some (array (items_of values))) × IsRefusedList values fault)
+    ⊎ ((values : List Data) × (station_at t ≡ Some (array (items_of values)))
+    × IsRefusedList values fault)
 
 -- what reading a text returns
 abbrev pub ReadAsKeyring : List ℕ → List Station → Type 0
@@ -135,15 +137,18 @@ abbrev pub is_lost : Option (List ℕ) → Policy → Bool
 is_lost None Encrypted = true
 is_lost _ _ = false
 
-abbrev pub opening_by_policy : List Station → Known → Option Policy → Header → List ℕ → Result (List ℕ) Closed
+abbrev pub opening_by_policy : List Station → Known → Option Policy → Header → List ℕ
+    → Result (List ℕ) Closed
 opening_by_policy ss known None header message = Err (Refused AnotherControl)
 opening_by_policy ss known (Some policy) header message =
     if is_lost (sender_of known header) policy then Err UnknownTitle
     else opening_under ss known policy header message
 
-abbrev pub opening_by_header : List Station → Known → Option Header → List ℕ → Result (List ℕ) Closed
+abbrev pub opening_by_header : List Station → Known → Option Header → List ℕ
+    → Result (List ℕ) Closed
 opening_by_header ss known None message = Err (Refused NotProtected)
-opening_by_header ss known (Some header) message = opening_by_policy ss known header.policy header message
+opening_by_header ss known (Some header) message =
+    opening_by_policy ss known header.policy header message
 
 -- the APDU in a message, or why it is not opened
 abbrev pub opening_among : List Station → Known → List ℕ → Result (List ℕ) Closed

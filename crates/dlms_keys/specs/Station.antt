@@ -38,7 +38,8 @@ abbrev pub closed_of : Result (List ℕ) UnprotectFault → Result (List ℕ) Cl
 closed_of (Ok apdu) = Ok apdu
 closed_of (Err fault) = Err (Refused fault)
 
-abbrev pub opened_under : Result (List ℕ) Closed → Result (List ℕ) Closed → (title message : List ℕ) → Result (List ℕ) Closed
+abbrev pub opened_under : Result (List ℕ) Closed → Result (List ℕ) Closed → (title message : List ℕ)
+    → Result (List ℕ) Closed
 opened_under (Err closed) authentication title message = Err closed
 opened_under (Ok encryption) (Err closed) title message = Err closed
 opened_under (Ok encryption) (Ok authentication) title message =
@@ -55,7 +56,8 @@ sender_of known header = first_title header.title known.sender
 -- the APDU in a message with this header under the keys of a station
 abbrev pub opened_by : Known → Policy → Header → List ℕ → Station → Result (List ℕ) Closed
 opened_by known policy header message station =
-    opened_under (encryption_for header.kind known.dedicated_key station) (authentication_for policy station)
+    opened_under (encryption_for header.kind known.dedicated_key station)
+    (authentication_for policy station)
     (title_for (sender_of known header) station) message
 
 abbrev pub opens : Known → Policy → Header → List ℕ → Station → Bool
@@ -68,4 +70,5 @@ is_title title (Some other) = bytes_eq title other
 
 abbrev pub is_near : Known → Header → Station → Bool
 is_near known header station =
-    is_title station.title header.title || (is_title station.title known.sender || is_title station.title known.receiver)
+    is_title station.title header.title || (is_title station.title known.sender
+    || is_title station.title known.receiver)

@@ -226,7 +226,8 @@ impl<'k> Keyring<'k> {
         header: Header,
         message: &[u8],
     ) -> Result<ArrayVec<u8, MOST_APDU>, Closed>
-        ensures { let by = opening_by_policy self.now.stations.now known.now (Some policy) header message.now in
+        ensures { let by = opening_by_policy self.now.stations.now known.now
+            (Some policy) header message.now in
             MatchResult result (λ apdu. by ≡ Ok apdu.items) (λ f. by ≡ Err f) }
     {
         let sender = first_title(header.title, known.sender);
@@ -246,7 +247,8 @@ impl<'k> Keyring<'k> {
     pub fn open_message(&self, known: &Known, message: &[u8]) -> Result<Plain, Closed>
         ensures apdu { let by = opening_among self.now.stations.now known.now message.now in
             MatchResult result (λ plain. by ≡ Ok plain.apdu.items) (λ f. by ≡ Err f) }
-        ensures tag { IfOk result (λ plain. plain.is_authenticated ≡ is_tagged (header_in message.now)) }
+        ensures tag { IfOk result (λ plain. plain.is_authenticated
+            ≡ is_tagged (header_in message.now)) }
     {
         let Some(header) = header_of(message) else {
             return Err(Closed::Refused(UnprotectFault::NotProtected));
@@ -302,7 +304,8 @@ impl Stations {
     pub fn open_message(&self, known: &Known, message: &[u8]) -> Result<Plain, Closed>
         ensures apdu { let by = opening_among self.now.stations.items known.now message.now in
             MatchResult result (λ plain. by ≡ Ok plain.apdu.items) (λ f. by ≡ Err f) }
-        ensures tag { IfOk result (λ plain. plain.is_authenticated ≡ is_tagged (header_in message.now)) }
+        ensures tag { IfOk result (λ plain. plain.is_authenticated
+            ≡ is_tagged (header_in message.now)) }
     {
         self.keyring().open_message(known, message)
     }

@@ -19,7 +19,8 @@ pub record Call : Type 0 where
 -- these calls, one after another, may lead from one state of a line to another
 abbrev pub Feeds : Line → List Call → Line → Type 0
 Feeds old [] new = new ≡ old
-Feeds old (call ∷ calls) new = (mid : Line) × Takes old call.taken mid × (call.apdu ≡ apdu_in mid) × Feeds mid calls new
+Feeds old (call ∷ calls) new =
+    (mid : Line) × Takes old call.taken mid × (call.apdu ≡ apdu_in mid) × Feeds mid calls new
 
 -- the octets of the calls, and their APDUs in order
 abbrev pub octets_of : List Call → List ℕ

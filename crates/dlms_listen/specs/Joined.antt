@@ -52,7 +52,8 @@ is_between (Some ends) dest src = (same_address ends.0 dest) && (same_address en
 
 -- the frame goes on with the open segments: it is between their addresses, and has no LLC header
 abbrev pub is_next : Segmented → Parts → Bool
-is_next kept frame = (is_between kept.ends frame.dest frame.src) && not (is_some (behind_llc frame.info))
+is_next kept frame =
+    (is_between kept.ends frame.dest frame.src) && not (is_some (behind_llc frame.info))
 
 abbrev pub left_out : Skip → Segment
 left_out why = record {
@@ -66,14 +67,19 @@ segments_so_far frame before octets =
     if nat_le (length octets) MOST_JOINED
     then record {
       outcome = record { complete = not frame.segmented; skip = before };
-      kept = record { octets = octets; ends = if frame.segmented then Some (frame.dest, frame.src) else None };
+      kept = record {
+        octets = octets;
+        ends = if frame.segmented then Some (frame.dest, frame.src)
+            else None;
+      };
     }
     else left_out skip.Long
 
 -- the first segment of an APDU tears the open ones
 abbrev pub first_segment : Segmented → Parts → Option (List ℕ) → Segment
 first_segment kept frame None = left_out skip.NoLlc
-first_segment kept frame (Some apdu) = segments_so_far frame (if is_some kept.ends then Some skip.Torn else None) apdu
+first_segment kept frame (Some apdu) =
+    segments_so_far frame (if is_some kept.ends then Some skip.Torn else None) apdu
 
 -- what a frame brings
 abbrev pub segment_of : Segmented → Parts → Segment
@@ -81,7 +87,10 @@ segment_of kept frame =
     if carries_apdu frame.control
     then (if is_next kept frame then segments_so_far frame None (kept.octets ++ frame.info)
     else first_segment kept frame (behind_llc frame.info))
-    else record { outcome = record { complete = false; skip = Some (skip.Control frame.control) }; kept = kept }
+    else record {
+      outcome = record { complete = false; skip = Some (skip.Control frame.control) };
+      kept = kept;
+    }
 
 -- ---- blocks (IEC 62056-5-3, 9.3.5, general block transfer)
 

@@ -48,10 +48,17 @@ pub record Joined : Type 0 where
   pub skipped : Option Skip
 
 abbrev pub joined_in : Line → Joined
-joined_in line = record { segments = line.segments; blocks = line.blocks; found = line.found; skipped = line.skipped }
+joined_in line =
+    record {
+      segments = line.segments;
+      blocks = line.blocks;
+      found = line.found;
+      skipped = line.skipped;
+    }
 
 abbrev pub nothing_found : Segmented → Blocked → Option Skip → Joined
-nothing_found segments blocks skipped = record { segments = segments; blocks = blocks; found = place.Nothing; skipped = skipped }
+nothing_found segments blocks skipped =
+    record { segments = segments; blocks = blocks; found = place.Nothing; skipped = skipped }
 
 -- the place of an APDU once it is complete: its frame or message, or its blocks if it is the last one
 abbrev pub found_after : Found → Option Outcome → Found
@@ -85,7 +92,8 @@ with_frame segments blocks (Some frame) = with_segment blocks (segment_of segmen
 -- what a message of the wrapper brings, if there is one
 abbrev pub with_message : Segmented → Blocked → Option wrapper.Parts → Joined
 with_message segments blocks None = nothing_found segments blocks None
-with_message segments blocks (Some message) = with_apdu segments blocks place.Message None message.apdu
+with_message segments blocks (Some message) =
+    with_apdu segments blocks place.Message None message.apdu
 
 -- what a call did with the octets that it took of frames
 pub record TakesFrames (old : Line) (taken : List ℕ) (new : Line) : Type 0 where
@@ -99,7 +107,8 @@ pub record TakesFrames (old : Line) (taken : List ℕ) (new : Line) : Type 0 whe
 abbrev pub SkipsHeader : Line → (read : List ℕ) → Line → Type 0
 SkipsHeader old read new =
     ((read ≡ []) × (new.skipped ≡ None))
-    ⊎ ((why : HeaderFault) × messages.IsRefusedFor new.messages.limit new.messages.bytes why × (new.skipped ≡ Some (skip.Header why)))
+    ⊎ ((why : HeaderFault) × messages.IsRefusedFor new.messages.limit new.messages.bytes why
+    × (new.skipped ≡ Some (skip.Header why)))
 
 -- what a call did with the octets that it took of messages
 pub record TakesMessages (old : Line) (taken : List ℕ) (new : Line) : Type 0 where
@@ -110,15 +119,19 @@ pub record TakesMessages (old : Line) (taken : List ℕ) (new : Line) : Type 0 w
   pub read : List ℕ
   pub left : List ℕ
   pub text : taken ≡ read ++ left
-  pub takes : messages.Takes old.messages.limit old.messages.bytes (record { taken = read; found = new.messages.message }) new.messages.bytes
+  pub takes : messages.Takes old.messages.limit old.messages.bytes
+      (record { taken = read; found = new.messages.message }) new.messages.bytes
   pub all : (left ≡ []) ⊎ messages.IsRefused new.messages.limit new.messages.bytes
   pub segments : new.segments ≡ old.segments
   pub blocks : new.blocks ≡ (with_message old.segments old.blocks new.messages.message).blocks
   pub found : new.found ≡ (with_message old.segments old.blocks new.messages.message).found
   pub stops : messages.IsRefused old.messages.limit old.messages.bytes → read ≡ []
-  pub skipped : IfSome new.messages.message (λ m. new.skipped ≡ skip_after None (outcome_of old.blocks (block_in m.apdu)))
-  pub header : IfNone new.messages.message (messages.IsRefused new.messages.limit new.messages.bytes → SkipsHeader old read new)
-  pub quiet : IfNone new.messages.message (¬ messages.IsRefused new.messages.limit new.messages.bytes → new.skipped ≡ None)
+  pub skipped : IfSome new.messages.message (λ m. new.skipped
+      ≡ skip_after None (outcome_of old.blocks (block_in m.apdu)))
+  pub header : IfNone new.messages.message (messages.IsRefused new.messages.limit new.messages.bytes
+      → SkipsHeader old read new)
+  pub quiet : IfNone new.messages.message
+      (¬ messages.IsRefused new.messages.limit new.messages.bytes → new.skipped ≡ None)
 
 -- the telegram that was found, in clear or ciphered
 abbrev pub telegram_at : telegram_found.Found → List ℕ → Option (List ℕ)

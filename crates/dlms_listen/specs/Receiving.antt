@@ -22,7 +22,8 @@ use Rattle.dlms_listen.specs.declared.receiver.Seal.{Seal}
 -- why an APDU is no notification: by its first octet it is of another service, or its fields or its value are not those of its own
 abbrev pub refusal_of : List ℕ → Refusal
 refusal_of [] = refusal.Another None
-refusal_of (tag ∷ rest) = if (tag == 0x0F) || (tag == 0xC2) then refusal.Malformed else refusal.Another (Some tag)
+refusal_of (tag ∷ rest) =
+    if (tag == 0x0F) || (tag == 0xC2) then refusal.Malformed else refusal.Another (Some tag)
 
 abbrev pub zeros : List ℕ
 zeros = 0 ∷ 0 ∷ 0 ∷ 0 ∷ 0 ∷ 0 ∷ 0 ∷ 0 ∷ 0 ∷ 0 ∷ 0 ∷ 0 ∷ 0 ∷ 0 ∷ 0 ∷ 0 ∷ []
@@ -48,26 +49,36 @@ abbrev pub sealed : Seal → Result (List ℕ) UnprotectFault → Result Opened 
 sealed seal (Err fault) = Err (refusal.Closed seal.title fault)
 sealed seal (Ok plain) = Ok (record { plain = plain; seal = seal })
 
-abbrev pub opened_under : (apdu encryption : List ℕ) → Seal → Option (List ℕ) → Result Opened Refusal
+abbrev pub opened_under : (apdu encryption : List ℕ) → Seal → Option (List ℕ)
+    → Result Opened Refusal
 opened_under apdu encryption seal None = Err (refusal.NoAuthenticationKey seal.title)
 opened_under apdu encryption seal (Some key) = sealed seal (opening encryption key seal.title apdu)
 
 abbrev pub opened_by : (apdu : List ℕ) → Seal → Policy → Option Station → Result Opened Refusal
 opened_by apdu seal policy None = Err (refusal.Foreign seal.title)
-opened_by apdu seal policy (Some station) = opened_under apdu station.encryption_key seal (key_for station.authentication_key policy)
+opened_by apdu seal policy (Some station) =
+    opened_under apdu station.encryption_key seal (key_for station.authentication_key policy)
 
-abbrev pub opened_from : List Station → (apdu title : List ℕ) → (counter : ℕ) → Option Policy → Result Opened Refusal
+abbrev pub opened_from : List Station → (apdu title : List ℕ) → (counter : ℕ) → Option Policy
+    → Result Opened Refusal
 opened_from stations apdu title counter None = Err (refusal.Closed title AnotherControl)
 opened_from stations apdu title counter (Some policy) =
-    opened_by apdu (record { title = title; counter = counter; is_authenticated = has_tag policy }) policy (titled_station title stations)
+    opened_by apdu (record {
+      title = title;
+      counter = counter;
+      is_authenticated = has_tag policy;
+    }) policy (titled_station title stations)
 
-abbrev pub opened_named : List Station → List ℕ → Option (List ℕ) → ℕ → Option Policy → Result Opened Refusal
+abbrev pub opened_named : List Station → List ℕ → Option (List ℕ) → ℕ → Option Policy
+    → Result Opened Refusal
 opened_named stations apdu None counter policy = Err refusal.NoTitle
-opened_named stations apdu (Some title) counter policy = opened_from stations apdu title counter policy
+opened_named stations apdu (Some title) counter policy =
+    opened_from stations apdu title counter policy
 
 abbrev pub opened_with : List Station → List ℕ → Option Header → Result Opened Refusal
 opened_with stations apdu None = Err refusal.Malformed
-opened_with stations apdu (Some header) = opened_named stations apdu header.title header.counter header.policy
+opened_with stations apdu (Some header) =
+    opened_named stations apdu header.title header.counter header.policy
 
 -- what a ciphered APDU contains under the keys of its sender, or why it is not opened
 abbrev pub opened : Option (List Station) → List ℕ → Result Opened Refusal
@@ -81,7 +92,8 @@ IsNone apdu = (n : Said) → IsNotification apdu n → ⊥
 abbrev pub Contains : Option (List Station) → List ℕ → Said → Option Seal → Type 0
 Contains keys apdu n None = (kind_of apdu ≡ None) × (keys ≡ None) × IsNotification apdu n
 Contains keys apdu n (Some seal) =
-    (plain : List ℕ) × IsSome (kind_of apdu) × (opened keys apdu ≡ Ok (record { plain = plain; seal = seal })) × IsNotification plain n
+    (plain : List ℕ) × IsSome (kind_of apdu) × (opened keys apdu
+    ≡ Ok (record { plain = plain; seal = seal })) × IsNotification plain n
 
 -- what is received from an APDU is a notification
 abbrev pub ContainsNotification : Option (List Station) → List ℕ → Content → Option Seal → Type 0
@@ -97,13 +109,15 @@ AcceptsSeal (Some seal) old new = Accepts seal.title seal.counter old new
 abbrev pub IsStale : Seal → List Sender → Refusal → Type 0
 IsStale seal senders (refusal.Replay title counter last) =
     (title ≡ seal.title) × (counter ≡ seal.counter) × IsReplay seal.title seal.counter last senders
-IsStale seal senders (refusal.Foreign title) = (title ≡ seal.title) × (length senders ≡ MOST_SENDERS)
+IsStale seal senders (refusal.Foreign title) =
+    (title ≡ seal.title) × (length senders ≡ MOST_SENDERS)
 IsStale seal senders other = ⊥
 
 -- why a notification in clear is not taken
 abbrev pub IsRefusedInClear : Option (List Station) → List ℕ → Refusal → Type 0
 IsRefusedInClear keys apdu why =
-    ((why ≡ refusal_of apdu) × IsNone apdu) ⊎ ((why ≡ refusal.InClear) × IsSome keys × ((n : Said) × IsNotification apdu n))
+    ((why ≡ refusal_of apdu) × IsNone apdu) ⊎ ((why ≡ refusal.InClear) × IsSome keys
+    × ((n : Said) × IsNotification apdu n))
 
 -- why a ciphered one is not taken
 abbrev pub IsRefusedOpened : List Sender → Result Opened Refusal → Refusal → Type 0

@@ -28,7 +28,8 @@ last_from title senders = last_of (slice_get senders (place_in title senders))
 -- a counter of the sender with this title is above its last one, which it then is; the other senders keep theirs
 pub record Accepts (title : List ℕ) (counter : ℕ) (old new : List Sender) : Type 0 where
   pub fresh : IsFresh (last_from title old) counter
-  pub here : slice_get new (place_in title old) ≡ Some (record { title = title; last = Some counter })
+  pub here : slice_get new (place_in title old) ≡ Some
+      (record { title = title; last = Some counter })
   pub others : (i : ℕ) → i ≢ place_in title old → slice_get new i ≡ slice_get old i
 
 -- a counter of the sender with this title is not above the last one that was accepted
@@ -39,4 +40,5 @@ pub record IsReplay (title : List ℕ) (counter last : ℕ) (senders : List Send
 -- why a counter is not accepted
 abbrev pub IsUnaccepted : List ℕ → ℕ → List Sender → Unaccepted → Type 0
 IsUnaccepted title counter senders (Replay last) = IsReplay title counter last senders
-IsUnaccepted title counter senders Full = (place_in title senders ≡ length senders) × (length senders ≡ MOST_SENDERS)
+IsUnaccepted title counter senders Full =
+    (place_in title senders ≡ length senders) × (length senders ≡ MOST_SENDERS)

@@ -11,7 +11,8 @@ ghost use Rattle.dlms_listen.specs.declared.carrier.Carrier.TheVariants.{Hdlc, W
 
 /// The calls return the APDUs of the line's frames, each once and in their order.
 pub fn frames()
-    ensures { (start last : Line) (calls : List Call) → IsStart (Some Hdlc) start → Feeds start calls last →
+    ensures { (start last : Line) (calls : List Call) → IsStart (Some Hdlc) start
+        → Feeds start calls last →
         (frames : List Parts) × FramesOf (octets_of calls) 0 frames
         × (apdus_of calls ≡ apdus_of_frames start.segments start.blocks frames) }
 {
@@ -20,7 +21,8 @@ pub fn frames()
 
 /// The calls return the APDUs of the line's messages, each once and in their order.
 pub fn messages()
-    ensures { (start last : Line) (calls : List Call) → IsStart (Some Wrapper) start → Feeds start calls last →
+    ensures { (start last : Line) (calls : List Call) → IsStart (Some Wrapper) start
+        → Feeds start calls last →
         (messages : List Message) × (rest : List ℕ) × Splits 1024 (octets_of calls) messages rest
         × (apdus_of calls ≡ apdus_of_messages start.segments start.blocks messages) }
 {

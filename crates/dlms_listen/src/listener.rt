@@ -107,7 +107,12 @@ fn join_frame(
     blocks: &mut Blocks,
     frame: &Frame<'_>,
 ) -> (Found, Option<Skip>)
-    ensures { record { segments = segments.new; blocks = blocks.new; found = result.0; skipped = result.1 }
+    ensures { record {
+      segments = segments.new;
+      blocks = blocks.new;
+      found = result.0;
+      skipped = result.1;
+    }
         ≡ with_segment blocks.old (segment_of segments.old frame.now) }
 {
     let (is_whole, skip) = segments.take(frame);

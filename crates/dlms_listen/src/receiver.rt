@@ -95,7 +95,8 @@ fn open_by(
     apdu: &[u8],
 ) -> Result<Plain, Refusal>
     ensures { let by = opened_by apdu.now seal policy station in
-        MatchResult result (λ p. by ≡ Ok (record { plain = p.apdu.items; seal = p.seal })) (λ f. by ≡ Err f) }
+        MatchResult result (λ p. by ≡ Ok (record { plain = p.apdu.items; seal = p.seal }))
+        (λ f. by ≡ Err f) }
 {
     let Some(station) = station else {
         return Err(Refusal::Foreign(seal.title));
@@ -112,7 +113,8 @@ fn open_by(
 /// Opens a ciphered APDU with this header under the keys of its sender.
 fn open_with(stations: &Stations, header: Header, apdu: &[u8]) -> Result<Plain, Refusal>
     ensures { let by = opened_with stations.now.stations.items apdu.now (Some header) in
-        MatchResult result (λ p. by ≡ Ok (record { plain = p.apdu.items; seal = p.seal })) (λ f. by ≡ Err f) }
+        MatchResult result (λ p. by ≡ Ok (record { plain = p.apdu.items; seal = p.seal }))
+        (λ f. by ≡ Err f) }
 {
     let Some(title) = header.title else {
         return Err(Refusal::NoTitle);
@@ -131,7 +133,8 @@ fn open_with(stations: &Stations, header: Header, apdu: &[u8]) -> Result<Plain, 
 /// Opens a ciphered APDU.
 fn open(keys: Option<&Stations>, apdu: &[u8]) -> Result<Plain, Refusal>
     ensures { let by = opened (option_map (λ k. k.now.stations.items) keys.entry) apdu.now in
-        MatchResult result (λ p. by ≡ Ok (record { plain = p.apdu.items; seal = p.seal })) (λ f. by ≡ Err f) }
+        MatchResult result (λ p. by ≡ Ok (record { plain = p.apdu.items; seal = p.seal }))
+        (λ f. by ≡ Err f) }
 {
     let Some(stations) = keys else {
         return Err(Refusal::NoKeys);
@@ -145,7 +148,8 @@ fn open(keys: Option<&Stations>, apdu: &[u8]) -> Result<Plain, Refusal>
 /// Reads the notification in the plain text of a ciphered APDU.
 fn read_plain(plain: &ArrayVec<u8, MOST_APDU>) -> Result<Notification<'_>, Refusal>
     ensures ok { IfOk result (λ n. IsNotification plain.now.items (said n)) }
-    ensures err { IfErr result (λ why. (why ≡ refusal_of plain.now.items) × IsNone plain.now.items) }
+    ensures err { IfErr result (λ why. (why ≡ refusal_of plain.now.items)
+        × IsNone plain.now.items) }
 {
     read_notification(plain.as_slice())
 }
@@ -163,7 +167,8 @@ fn telegram_in(octets: &[u8]) -> Result<Telegram<'_>, Refusal>
 
 /// The ciphertext and the tag of a ciphered telegram, after its head of 18 octets.
 fn sealed_parts(octets: &[u8]) -> Option<(&[u8], [u8; TAG])>
-    ensures parts { IfSome result (λ parts. octets.now ≡ take 18 octets.now ++ (parts.0.now ++ parts.1)) }
+    ensures parts { IfSome result (λ parts. octets.now
+        ≡ take 18 octets.now ++ (parts.0.now ++ parts.1)) }
     ensures exact { option_map (λ parts. (parts.0.now, parts.1)) result ≡ sealed_in octets.now }
 {
     if octets.len() < HEAD + TAG {
@@ -185,9 +190,12 @@ fn decrypt(
     plain: &mut ArrayVec<u8, MOST_TELEGRAM>,
 ) -> Result<(), UnprotectFault>
     ensures tag { IfOk result (λ _. tag.now
-        ≡ sealed_tag (encryption_key keys.now) (authentication_key keys.now) seal.title seal.counter text.now) }
-    ensures plain { IfOk result (λ _. plain.new.items ≡ cipher_of (encryption_key keys.now) seal.title seal.counter text.now) }
-    ensures err { IfErr result (IsUndecrypted (encryption_key keys.now) (authentication_key keys.now) seal (Some (text.now, tag.now))) }
+        ≡ sealed_tag (encryption_key keys.now)
+        (authentication_key keys.now) seal.title seal.counter text.now) }
+    ensures plain { IfOk result (λ _. plain.new.items
+        ≡ cipher_of (encryption_key keys.now) seal.title seal.counter text.now) }
+    ensures err { IfErr result (IsUndecrypted (encryption_key keys.now)
+        (authentication_key keys.now) seal (Some (text.now, tag.now))) }
 {
     plain.clear();
     if plain.try_extend_from_slice(text).is_err() {
@@ -206,8 +214,10 @@ fn decrypt_parts(
     octets: &[u8],
     plain: &mut ArrayVec<u8, MOST_TELEGRAM>,
 ) -> Result<(), UnprotectFault>
-    ensures ok { IfOk result (λ _. Decrypts (encryption_key keys.now) (authentication_key keys.now) seal octets.now plain.new.items) }
-    ensures err { IfErr result (IsUndecrypted (encryption_key keys.now) (authentication_key keys.now) seal (sealed_in octets.now)) }
+    ensures ok { IfOk result (λ _. Decrypts (encryption_key keys.now)
+        (authentication_key keys.now) seal octets.now plain.new.items) }
+    ensures err { IfErr result (IsUndecrypted (encryption_key keys.now)
+        (authentication_key keys.now) seal (sealed_in octets.now)) }
 {
     let (text, tag) = sealed_parts(octets).ok_or(UnprotectFault::Short)?;
     decrypt(keys, seal, text, &tag, plain)
@@ -244,8 +254,11 @@ fn open_sealed(
     plain: &mut ArrayVec<u8, MOST_TELEGRAM>,
 ) -> Result<Seal, Refusal>
     ensures seal { IfOk result (IsSealOf header) }
-    ensures opens { IfOk result (λ seal. OpensBy (titled_station seal.title stations.now.stations.items) octets.now seal plain.new.items) }
-    ensures err { IfErr result (IsUnopenedWith stations.now.stations.items octets.now (Some header)) }
+    ensures opens { IfOk result
+        (λ seal. OpensBy
+        (titled_station seal.title stations.now.stations.items) octets.now seal plain.new.items) }
+    ensures err { IfErr result (IsUnopenedWith stations.now.stations.items octets.now
+        (Some header)) }
 {
     let Some(title) = header.title else {
         return Err(Refusal::NoTitle);
@@ -270,8 +283,10 @@ fn open_telegram(
     octets: &[u8],
     plain: &mut ArrayVec<u8, MOST_TELEGRAM>,
 ) -> Result<Seal, Refusal>
-    ensures ok { IfOk result (λ seal. Unseals (option_map (λ k. k.now.stations.items) keys.entry) octets.now seal plain.new.items) }
-    ensures err { IfErr result (IsUnopened (option_map (λ k. k.now.stations.items) keys.entry) octets.now) }
+    ensures ok { IfOk result (λ seal. Unseals (option_map
+        (λ k. k.now.stations.items) keys.entry) octets.now seal plain.new.items) }
+    ensures err { IfErr result (IsUnopened (option_map
+        (λ k. k.now.stations.items) keys.entry) octets.now) }
 {
     let Some(stations) = keys else {
         return Err(Refusal::NoKeys);
@@ -284,7 +299,8 @@ fn open_telegram(
 
 /// Accepts the counter of a seal.
 fn accept(senders: &mut Senders, seal: Seal) -> Result<(), Refusal>
-    ensures ok { OnOk result (Accepts seal.title seal.counter senders.old.all.items senders.new.all.items) }
+    ensures ok { OnOk result
+        (Accepts seal.title seal.counter senders.old.all.items senders.new.all.items) }
     ensures err { OnErr result (senders.new ≡ senders.old) }
     ensures why { IfErr result (IsStale seal senders.old.all.items) }
 {
@@ -323,7 +339,8 @@ impl<'k> Receiver<'k> {
     ) -> Result<Received<'a>, Refusal>
         ensures ok { let keys = option_map (λ k. k.now.stations.items) self.old.keys in
             IfOk result (λ r. ContainsNotification keys apdu.now r.content r.seal) }
-        ensures counter { IfOk result (λ r. AcceptsSeal r.seal self.old.senders.all.items self.new.senders.all.items) }
+        ensures counter { IfOk result
+            (λ r. AcceptsSeal r.seal self.old.senders.all.items self.new.senders.all.items) }
         ensures err { let keys = option_map (λ k. k.now.stations.items) self.old.keys in
             IfErr result (IsRefused keys self.old.senders.all.items apdu.now) }
         ensures same { OnErr result (self.new ≡ self.old) }
@@ -357,7 +374,8 @@ impl<'k> Receiver<'k> {
     ) -> Result<Received<'a>, Refusal>
         ensures ok { let keys = option_map (λ k. k.now.stations.items) self.old.keys in
             IfOk result (λ r. ContainsTelegram keys octets.now r.content r.seal) }
-        ensures counter { IfOk result (λ r. AcceptsSeal r.seal self.old.senders.all.items self.new.senders.all.items) }
+        ensures counter { IfOk result
+            (λ r. AcceptsSeal r.seal self.old.senders.all.items self.new.senders.all.items) }
         ensures err { let keys = option_map (λ k. k.now.stations.items) self.old.keys in
             IfErr result (IsRefusedTelegram keys self.old.senders.all.items octets.now) }
         ensures same { OnErr result (self.new ≡ self.old) }

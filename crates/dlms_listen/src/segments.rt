@@ -111,7 +111,8 @@ impl Segments {
     ) -> (bool, Option<Skip>)
         ensures outcome { record { complete = result.0; skip = result.1 }
             ≡ (segments_so_far frame.now before (self.old.octets ++ octets.now)).outcome }
-        ensures kept { self.new ≡ (segments_so_far frame.now before (self.old.octets ++ octets.now)).kept }
+        ensures kept { self.new ≡ (segments_so_far frame.now before
+            (self.old.octets ++ octets.now)).kept }
     {
         if self.octets.try_extend_from_slice(octets).is_err() {
             self.clear();
@@ -129,7 +130,8 @@ impl Segments {
     fn begin(&mut self, frame: &Frame<'_>, apdu: Option<&[u8]>) -> (bool, Option<Skip>)
         ensures outcome { record { complete = result.0; skip = result.1 }
             ≡ (first_segment self.old frame.now (option_map (λ a. a.now) apdu.entry)).outcome }
-        ensures kept { self.new ≡ (first_segment self.old frame.now (option_map (λ a. a.now) apdu.entry)).kept }
+        ensures kept { self.new ≡ (first_segment self.old frame.now
+            (option_map (λ a. a.now) apdu.entry)).kept }
     {
         let is_torn = self.clear();
         match apdu {
@@ -141,7 +143,8 @@ impl Segments {
     /// Takes a frame. Returns whether an APDU is complete, and the cause of octets left out; a frame that begins an APDU within the
     /// segments of another leaves those out.
     pub fn take(&mut self, frame: &Frame<'_>) -> (bool, Option<Skip>)
-        ensures outcome { record { complete = result.0; skip = result.1 } ≡ (segment_of self.old frame.now).outcome }
+        ensures outcome { record { complete = result.0; skip = result.1 }
+            ≡ (segment_of self.old frame.now).outcome }
         ensures kept { self.new ≡ (segment_of self.old frame.now).kept }
     {
         if !carries_apdu(frame.control) {

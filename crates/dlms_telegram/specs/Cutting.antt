@@ -28,7 +28,8 @@ completed_by calls = flat_map (λ call. completed_in call.reader) calls
 abbrev pub completed_of : Kept → List ℕ → List Kept
 completed_of kept [] = []
 completed_of kept (x ∷ xs) =
-    if is_found (after kept x).found then after kept x ∷ completed_of (nothing Nothing) xs else completed_of (after kept x) xs
+    if is_found (after kept x).found then after kept x ∷ completed_of (nothing Nothing) xs
+    else completed_of (after kept x) xs
 
 -- some of these octets, one after another
 abbrev pub IsPart : (octets part : List ℕ) → Type 0

@@ -21,7 +21,8 @@ number_after number (x ∷ xs) = number_after (10 * number + (x - 0x30)) xs
 
 -- the octets before the first of a kind, and those after it, if there is one
 abbrev pub IsParted : List ℕ → ℕ → List ℕ → List ℕ → Type 0
-IsParted octets mark before after = IsSplit octets mark before after ⊎ ((before ≡ octets) × (after ≡ []))
+IsParted octets mark before after =
+    IsSplit octets mark before after ⊎ ((before ≡ octets) × (after ≡ []))
 
 -- a decimal number: at least one digit, perhaps a point and digits, perhaps a star and a unit
 pub record IsNumber (value : List ℕ) (mantissa decimals : ℕ) (unit : List ℕ) : Type 0 where

@@ -6,7 +6,8 @@ unfoldable pub step : ℕ → ℕ
 step register = bit_xor (register / 2) (register % 2 * 0xA001)
 
 abbrev pub after_octet : ℕ → ℕ → ℕ
-after_octet register octet = step (step (step (step (step (step (step (step (bit_xor register octet))))))))
+after_octet register octet =
+    step (step (step (step (step (step (step (step (bit_xor register octet))))))))
 
 abbrev pub after_octets : ℕ → List ℕ → ℕ
 after_octets register [] = register

@@ -11,13 +11,15 @@ use Rattle.dlms_telegram.specs.declared.reader.TheConstants.{MOST_TELEGRAM}
 
 -- the hexadecimal digit of a number below 16, of either case
 abbrev pub is_digit_of : ℕ → ℕ → Bool
-is_digit_of number x = if nat_lt number 10 then x == 0x30 + number else (x == 0x37 + number) || (x == 0x57 + number)
+is_digit_of number x =
+    if nat_lt number 10 then x == 0x30 + number else (x == 0x37 + number) || (x == 0x57 + number)
 
 -- four hexadecimal digits, the highest first
 abbrev pub is_spelled : ℕ → ℕ → ℕ → ℕ → ℕ → Bool
 is_spelled number a b c d =
     (is_digit_of (number / 4096) a)
-    && ((is_digit_of (number / 256 % 16) b) && ((is_digit_of (number / 16 % 16) c) && (is_digit_of (number % 16) d)))
+    && ((is_digit_of (number / 256 % 16) b) && ((is_digit_of (number / 16 % 16) c)
+    && (is_digit_of (number % 16) d)))
 
 -- What follows the ! of a telegram with this check: the check, or nothing besides the end of the line, as from meters of DSMR 2. Whether
 -- it is the check.
@@ -57,7 +59,9 @@ begins x = (x == 0x2F) || (x == 0xDB)
 
 -- an octet outside of telegrams
 abbrev pub first_octet : ℕ → Kept
-first_octet x = if begins x then record { octets = x ∷ []; marked = 0; found = outcome.Nothing } else nothing outcome.Nothing
+first_octet x =
+    if begins x then record { octets = x ∷ []; marked = 0; found = outcome.Nothing }
+    else nothing outcome.Nothing
 
 -- an octet more, of which a telegram has at most 4,096
 abbrev pub with_octet : Kept → ℕ → ℕ → Found → Kept
@@ -87,19 +91,23 @@ abbrev pub tail_octet : Kept → ℕ → Kept
 tail_octet kept x =
     if x == 0x0A then with_octet kept x kept.marked
     (verdict (end_of (check_of (take kept.marked kept.octets)) (drop kept.marked kept.octets)))
-    else if nat_lt (length kept.octets - kept.marked) 5 then with_octet kept x kept.marked outcome.Nothing
+    else if nat_lt (length kept.octets - kept.marked) 5
+    then with_octet kept x kept.marked outcome.Nothing
     else nothing outcome.Nothing
 
 -- The number of octets of a ciphered telegram, known with the second octet of its length: DB 08, a title of eight, 82, the length in two
 abbrev pub whole_of : Kept → ℕ → ℕ
-whole_of kept x = if length kept.octets == 12 then 13 + 256 * get_or kept.octets 11 0 + x else kept.marked
+whole_of kept x =
+    if length kept.octets == 12 then 13 + 256 * get_or kept.octets 11 0 + x else kept.marked
 
 -- an octet of a ciphered telegram, which its length ends
 abbrev pub sealed_octet : Kept → ℕ → Kept
 sealed_octet kept x =
-    if ((length kept.octets == 1) && not (x == 0x08)) || ((length kept.octets == 10) && not (x == 0x82)) then first_octet x
+    if ((length kept.octets == 1) && not (x == 0x08))
+    || ((length kept.octets == 10) && not (x == 0x82)) then first_octet x
     else if nat_lt MOST_TELEGRAM (whole_of kept x) then nothing outcome.Long
-    else with_octet kept x (whole_of kept x) (if length kept.octets + 1 == whole_of kept x then outcome.Sealed else outcome.Nothing)
+    else with_octet kept x (whole_of kept x) (if length kept.octets + 1 == whole_of kept x
+    then outcome.Sealed else outcome.Nothing)
 
 -- an octet within or outside of a telegram; one that begins a telegram drops what was begun in clear
 abbrev pub octet_in : List ℕ → Kept → ℕ → Kept
@@ -127,7 +135,8 @@ fed kept (x ∷ xs) = if is_found (after kept x).found then after kept x else fe
 
 abbrev pub count_fed : Kept → List ℕ → ℕ
 count_fed kept [] = 0
-count_fed kept (x ∷ xs) = if is_found (after kept x).found then 1 else count_fed (after kept x) xs + 1
+count_fed kept (x ∷ xs) =
+    if is_found (after kept x).found then 1 else count_fed (after kept x) xs + 1
 
 -- what the last call completed is dropped
 abbrev pub dropped : Kept → Kept

@@ -129,7 +129,8 @@ fn hexadecimal(digit: u8) -> Option<u8>
 
 /// The printable character that two hexadecimal digits are, as the identifiers of equipment are written.
 pub fn character_in(high: u8, low: u8) -> Option<u8>
-    ensures { IfSome result (λ c. (is_digit_of (c / 16) high ≡ true) × (is_digit_of (c % 16) low ≡ true)) }
+    ensures { IfSome result (λ c. (is_digit_of (c / 16) high ≡ true)
+        × (is_digit_of (c % 16) low ≡ true)) }
 {
     let octet = hexadecimal(high)? * 16 + hexadecimal(low)?;
     if 0x20 <= octet && octet < 0x7f {

@@ -247,7 +247,8 @@ impl TelegramReader {
 
     /// The outcome of the telegram that the next octet ends.
     fn verdict(&self) -> Found
-        ensures { result ≡ verdict (end_of (check_of (take self.now.marked self.now.octets)) (drop self.now.marked self.now.octets)) }
+        ensures { result ≡ verdict (end_of (check_of (take self.now.marked self.now.octets))
+            (drop self.now.marked self.now.octets)) }
     {
         let octets = self.octets.as_slice();
         if self.marked <= octets.len() {

@@ -46,7 +46,8 @@ line_of place = if names_carrier place then drop 2 (after_first is_colon place) 
 -- ---- a host without a port, which is that of DLMS/COSEM then
 
 abbrev pub is_host_octet : ℕ → Bool
-is_host_octet octet = is_ascii_alphanumeric octet || (eqb octet 45 || (eqb octet 46 || eqb octet 95))
+is_host_octet octet =
+    is_ascii_alphanumeric octet || (eqb octet 45 || (eqb octet 46 || eqb octet 95))
 
 -- an address in brackets
 abbrev pub is_bracketed : List ℕ → Bool

@@ -134,7 +134,8 @@ abbrev pub poll_command : App
 poll_command = with_rules (with_rules (new_app (codes "poll"))
     (wanted_rule (codes "PLACE") ∷ option_rule (codes "readings") ∷ flag_rule (codes "public")
     ∷ flag_rule (codes "reader") ∷ number_rule (codes "deadline") 1 86400
-    ∷ number_rule (codes "rows-per-request") 2 100000 ∷ flag_rule (codes "check-clock") ∷ number_rule (codes "ahead") 0 31536000
+    ∷ number_rule (codes "rows-per-request") 2 100000 ∷ flag_rule (codes "check-clock")
+    ∷ number_rule (codes "ahead") 0 31536000
     ∷ flag_rule (codes "strict") ∷ options_rule (codes "expect") ∷ flag_rule (codes "json")
     ∷ flag_rule (codes "quiet") ∷ []))
     polling_rules
@@ -144,14 +145,16 @@ collect_command = with_rules (new_app (codes "collect"))
     (wanted_rule (codes "LIST") ∷ option_rule (codes "readings")
     ∷ option_rule (codes "get") ∷ flag_rule (codes "clock") ∷ flag_rule (codes "set")
     ∷ number_rule (codes "threshold") 0 86400 ∷ option_rule (codes "secret-file")
-    ∷ number_rule (codes "client") 1 127 ∷ number_rule (codes "at-once") 1 100000 ∷ number_rule (codes "deadline") 1 86400
+    ∷ number_rule (codes "client") 1 127 ∷ number_rule (codes "at-once") 1 100000
+    ∷ number_rule (codes "deadline") 1 86400
     ∷ number_rule (codes "every") 1 31536000 ∷ number_rule (codes "retries") 0 100
     ∷ option_rule (codes "failed") ∷ flag_rule (codes "quiet") ∷ flag_rule (codes "json") ∷ [])
 
 abbrev pub get_command : App
 get_command = with_rules (with_rules (new_app (codes "get"))
     (wanted_rule (codes "PLACE") ∷ wanted_rule (codes "NAMES")
-    ∷ number_rule (codes "class") 1 65535 ∷ flag_rule (codes "raw") ∷ flag_rule (codes "json") ∷ []))
+    ∷ number_rule (codes "class") 1 65535 ∷ flag_rule (codes "raw") ∷ flag_rule (codes "json")
+    ∷ []))
     asking_rules
 
 abbrev pub list_command : App
@@ -233,7 +236,8 @@ top = record (new_app (codes "dlms")) {
 
 abbrev pub commands : List App
 commands = format_command ∷ replay_command ∷ loopback_command ∷ serve_command ∷ listen_command
-    ∷ poll_command ∷ collect_command ∷ get_command ∷ list_command ∷ profile_command ∷ clock_command ∷ set_command
+    ∷ poll_command ∷ collect_command ∷ get_command ∷ list_command ∷ profile_command ∷ clock_command
+    ∷ set_command
     ∷ act_command ∷ explain_command ∷ show_command ∷ plot_command ∷ keys_command ∷ names_command
     ∷ man_command ∷ completions_command ∷ []
 
