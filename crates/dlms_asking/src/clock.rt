@@ -134,7 +134,7 @@ pub fn correction_word(done: Correction) -> &'static str {
     }
 }
 
-/// Appends the comparison, what was done, and the comparison after it, as members of an object of JSON, and its last brace.
+/// Appends the comparison, the correction, and the comparison after it, as members of an object of JSON, and its last brace.
 pub fn append_correction(
     text: &mut Vec<u8>,
     found: &Comparison,
@@ -154,7 +154,7 @@ pub fn append_correction(
 }
 
 impl ClockRequest {
-    /// Appends the comparison, what was done, and the comparison after it, as lines.
+    /// Appends the comparison, the correction, and the comparison after it, as lines.
     fn append_text(
         &self,
         text: &mut Vec<u8>,
@@ -175,7 +175,7 @@ impl ClockRequest {
         }
     }
 
-    /// Prints the comparison, what was done, and the comparison after it.
+    /// Prints the comparison, the correction, and the comparison after it.
     fn put<'a, W: Write>(
         &self,
         alloc: Global,
@@ -243,7 +243,7 @@ impl<'a, S: End> MeterSession<'a, '_, S> {
     }
 
     /// Compares the clock with the system's, corrects it if that is asked for and it is off, and prints that. If it cannot be read
-    /// after it was corrected, what was done is printed all the same.
+    /// after it was corrected, the correction is printed all the same.
     #[inline(never)]
     pub fn clock_one<H: Clock, W: Write>(
         &mut self,

@@ -7,7 +7,7 @@ use dlms_frame::{Deframer, Frame};
 use std::alloc::{AllocError, Allocator};
 use std::marker::Model;
 
-/// The deframer of an HDLC link, on the heap: by value it would take 20 KB of every caller's stack. Its calls are those of `Deframer`.
+/// The deframer of an HDLC link, on the heap: by value it would take 15 KB of every caller's stack. Its calls are those of `Deframer`.
 #[derive(Drop)]
 pub struct KeptDeframer<A: Allocator> {
     deframer: Box<Deframer, A>,

@@ -18,7 +18,8 @@ use Rattle.dlms_collecting.specs.declared.fault.MeterFault.{MeterFault}
 use Rattle.dlms_collecting.specs.declared.fault.MeterFault.TheVariants.{Refused}
 use Rattle.dlms_collecting.specs.declared.fault.Refusal.TheVariants as refusal
 
--- Whether a clock that is ahead by so many seconds is corrected: if clocks are, and it is off by more than the threshold, or shows no time.
+-- Whether a clock that is ahead by this many seconds is corrected: clocks are to be corrected, and it is off by more than the threshold, or
+-- shows no time.
 abbrev pub corrects : Purpose → Option ℤ → Bool
 corrects (Poll folder) ahead = false
 corrects (Get written names) ahead = false

@@ -441,7 +441,7 @@ impl<
         Ok(Finished::Nothing)
     }
 
-    /// Prints the clock of a meter, and what was done to it.
+    /// Prints the clock of a meter, and how it was corrected.
     fn print_clock(
         &mut self,
         number: usize,
@@ -465,7 +465,7 @@ impl<
     }
 
     /// Takes the clock that a meter showed at this second of the system's, or after it was corrected. One that is off waits for its
-    /// correction; any other is printed. If it could not be read after it was corrected, what was done is printed all the same.
+    /// correction; any other is printed. If it could not be read after it was corrected, the correction is printed all the same.
     fn take_clock(
         &mut self,
         number: usize,

@@ -26,7 +26,7 @@ pub struct MeterValue<'a> {
     pub second: u64,
 }
 
-/// The clock of a meter, and what was done to it.
+/// The clock of a meter, and how it was corrected.
 #[derive(Clone, Copy)]
 pub struct MeterClock<'a> {
     /// The meter's name in the list.

@@ -142,7 +142,7 @@ impl MeterTexts {
     }
 }
 
-/// Appends what was done to a clock, and its time and its difference then, as three fields of CSV. The last two are empty if they are
+/// Appends the correction of a clock, and its time and difference after it, as three fields of CSV. The last two are empty if they are
 /// not known.
 fn append_done(text: &mut Vec<u8>, clock: &MeterClock<'_>) -> Result<(), AllocError> {
     text.extend_from_slice(b",")?;
@@ -154,7 +154,7 @@ fn append_done(text: &mut Vec<u8>, clock: &MeterClock<'_>) -> Result<(), AllocEr
     }
 }
 
-/// Appends the line of a meter's clock, compared with the system's. If clocks are corrected, it also has what was done.
+/// Appends the line of a meter's clock, compared with the system's. If clocks are corrected, it also has the correction.
 fn append_line(
     text: &mut Vec<u8>,
     clock: &MeterClock<'_>,

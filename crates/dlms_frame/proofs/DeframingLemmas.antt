@@ -72,7 +72,7 @@ found_is w k f s d r n info count h is count_is =
     ap (λ m. with (take m (drop (length w - 3 - m) w))) e ∙ ap with (info_place w k f h).1 ∙ ap (λ (g : Parts). with g.info) (sym is) ∙ is
 
 -- a frame that was noted ends the window
-pub EndsIn-found : (w : List ℕ) (k : ℕ) (f : Parts) (found : Found) → FrameSpelling (drop k w) f → parts_in w found ≡ f → found.count ≡ length f.info → length w ≤ 4096 → EndsIn w (Some found)
+pub EndsIn-found : (w : List ℕ) (k : ℕ) (f : Parts) (found : Found) → FrameSpelling (drop k w) f → parts_in w found ≡ f → found.count ≡ length f.info → length w ≤ 3072 → EndsIn w (Some found)
 EndsIn-found w k f found h is count_is short =
     let room : length f.info + 3 ≤ length w = (info_place w k f h).0 in
     (short, omega (arith, room, count_is), subst (λ (g : Parts). IsFrame g) (sym is) h.fits)

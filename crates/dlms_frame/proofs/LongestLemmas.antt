@@ -187,7 +187,7 @@ Walk-bound bytes from to place best w =
     omega (arith, latest_le bytes w.n (to - 1))
 
 -- what the index holds at a place of the walk
-pub next_is : (bytes heads links : List ℕ) (from to place start next : ℕ) (best : Option Parts) → IsIndex bytes heads links (to - 2) → 2 ≤ to → to ≤ 4096 → place ≡ suc start
+pub next_is : (bytes heads links : List ℕ) (from to place start next : ℕ) (best : Option Parts) → IsIndex bytes heads links (to - 2) → 2 ≤ to → to ≤ 3072 → place ≡ suc start
     → Walk bytes from to place best → next ≡ get_or links start 0 → (next ≡ latest bytes start (end_of bytes start)) × (next ≤ start)
 next_is bytes heads links from to place start next best h some within is w is_next =
     let here = latest_end bytes w.n (to - 1) start (sym w.at ∙ is) in

@@ -29,7 +29,7 @@ kept_of d = record {
 -- a frame is at the end of these bytes, or they are no more than a frame has
 abbrev pub EndsIn : List ℕ → Option Found → Type 0
 EndsIn bytes None = length bytes ≤ 2048
-EndsIn bytes (Some f) = (length bytes ≤ 4096) × (f.count + 3 ≤ length bytes)
+EndsIn bytes (Some f) = (length bytes ≤ 3072) × (f.count + 3 ≤ length bytes)
     × IsFrame (parts_in bytes f)
 
 abbrev pub IsInOrder : Inside → Type 0

@@ -8,7 +8,7 @@ use crate::frame::Frame;
 use crate::reading::{FLAG, FORMAT, read};
 use std::marker::Model;
 
-pub(crate) const ROOM: usize = 4096;
+pub(crate) const ROOM: usize = 3072;
 
 /// By the place of a closing flag the last place of an opening one, and from each opening flag the one before it
 /// that has the same end: one more than the place, or 0.
@@ -20,7 +20,7 @@ struct Index {
 
 /// The place of the closing flag of a frame that opens at `start`; 0 if none can open there.
 fn end_at(bytes: &[u8; ROOM], start: usize) -> usize
-    requires { start + 2 < 4096 }
+    requires { start + 2 < 3072 }
     ensures { result ≡ end_of bytes.now start }
 {
     let high = usize::from(bytes[start + 1]);
@@ -33,7 +33,7 @@ fn end_at(bytes: &[u8; ROOM], start: usize) -> usize
 
 /// Notes one more place.
 fn note(index: &mut Index, bytes: &[u8; ROOM], start: usize)
-    requires within { start + 2 < 4096 }
+    requires within { start + 2 < 3072 }
     requires noted { IsIndex bytes.now index.old.heads index.old.links start }
     ensures { IsIndex bytes.now index.new.heads index.new.links (start + 1) }
 {
@@ -46,7 +46,7 @@ fn note(index: &mut Index, bytes: &[u8; ROOM], start: usize)
 
 /// Notes the first places, and no others.
 fn note_all(index: &mut Index, bytes: &[u8; ROOM], count: usize)
-    requires { count + 2 ≤ 4096 }
+    requires { count + 2 ≤ 3072 }
     ensures { IsIndex bytes.now index.new.heads index.new.links count }
 {
     index.heads.fill(0);
@@ -58,7 +58,7 @@ fn note_all(index: &mut Index, bytes: &[u8; ROOM], count: usize)
 /// The longest frame at the end of the bytes up to `to`, that begins at `from` or later.
 fn longest<'a>(bytes: &'a [u8; ROOM], index: &Index, from: usize, to: usize) -> Option<Frame<'a>>
     requires order { from ≤ to }
-    requires within { to ≤ 4096 }
+    requires within { to ≤ 3072 }
     requires noted { IsIndex bytes.now index.now.heads index.now.links (to - 2) }
     ensures found { IfSome result (λ f. (k : ℕ) × IsLongest (drop from (take to bytes.now)) k f) }
     ensures none { IfNone result ((k : ℕ) (f : Parts)
@@ -95,7 +95,7 @@ impl Model for Buffer {
 
     ghost view = { λ b. take b.len b.bytes };
 
-    ghost invariant = { λ b. (b.len ≤ 4096) × IsIndex b.bytes b.index.heads b.index.links (b.len - 2) };
+    ghost invariant = { λ b. (b.len ≤ 3072) × IsIndex b.bytes b.index.heads b.index.links (b.len - 2) };
 }
 
 impl Buffer {
@@ -116,7 +116,7 @@ impl Buffer {
     /// How many bytes there are.
     pub(crate) fn len(&self) -> usize
         ensures value { result ≡ length self.now }
-        ensures fits { result ≤ 4096 }
+        ensures fits { result ≤ 3072 }
     {
         self.len
     }
@@ -124,14 +124,14 @@ impl Buffer {
     /// The bytes.
     pub(crate) fn as_slice(&self) -> &[u8]
         ensures value { result.now ≡ self.now }
-        ensures fits { length result.now ≤ 4096 }
+        ensures fits { length result.now ≤ 3072 }
     {
         &self.bytes[..self.len]
     }
 
     /// Appends a byte.
     pub(crate) fn push(&mut self, byte: u8)
-        requires { length self.old < 4096 }
+        requires { length self.old < 3072 }
         ensures { self.new ≡ self.old ++ byte ∷ [] }
     {
         let at = self.len;

@@ -33,7 +33,7 @@ struct Found {
 /// Finds the frames of a stream that comes in pieces.
 ///
 /// Looks for frames in at most the last 2,048 bytes, and keeps a table of the ends of the frames that open in them, so that the
-/// work per byte is bounded for every input. It takes about 20 KB on the stack. The frame that a call ended stays in it until the
+/// work per byte is bounded for every input. It takes about 15 KB on the stack. The frame that a call ended stays in it until the
 /// next call, and is borrowed from it.
 #[derive(Drop)]
 pub struct Deframer {

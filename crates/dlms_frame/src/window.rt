@@ -43,14 +43,14 @@ impl Window {
     /// The bytes.
     pub(crate) fn as_slice(&self) -> &[u8]
         ensures value { result.now ≡ self.now }
-        ensures fits { length result.now ≤ 4096 }
+        ensures fits { length result.now ≤ 3072 }
     {
         &self.buffer.as_slice()[self.from..]
     }
 
     /// Appends a byte.
     pub(crate) fn push(&mut self, byte: u8)
-        requires { length self.old < 4096 }
+        requires { length self.old < 3072 }
         ensures { self.new ≡ self.old ++ byte ∷ [] }
     {
         if self.buffer.len() == ROOM {

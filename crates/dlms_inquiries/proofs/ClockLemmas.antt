@@ -15,7 +15,7 @@ set_so shown clock plain time moment d local second is deviation lies near named
     subst (λ (o : Option (List ℕ)). IsTimeToSet o moment time) (sym is)
     (plain, subst (λ (s : ℕ). IsPlain s plain) (near ∙ ap nearest (lies ∙ ap (λ (x : ℤ). moment -ℤ x *ℤ pos 60) deviation)) named, same)
 
--- ---- what is set names the second that was meant
+-- ---- a clock that is set shows the intended second
 
 zone_named : (clock plain : List ℕ) (n : ℕ) → NamesSecond plain n → NamesSecond (without_deviation (in_zone_of clock plain)) n × (deviation_of (in_zone_of clock plain) ≡ deviation_of clock)
 zone_named clock [] n names = absurd (cc names.size)

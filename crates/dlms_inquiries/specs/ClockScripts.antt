@@ -66,7 +66,7 @@ ReadsLast done old next new = (next ≡ Some (Get the_time))
 abbrev pub ReadsTime : ClockScript → Option Question → ClockScript → Type 0
 ReadsTime old next new = (next ≡ Some (Get the_time)) × (new ≡ record old { stage = stage.Time })
 
--- the clock is shifted by so many seconds
+-- the clock is shifted by this many seconds
 abbrev pub Shifts : ℤ → ClockScript → Option Question → ClockScript → Type 0
 Shifts seconds old next new = (value : Data Global) × (next ≡ Some (Act shift_time (Some value)))
     × (value_of value ≡ long seconds) × (new ≡ record old { stage = stage.Shift })

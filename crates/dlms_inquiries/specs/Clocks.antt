@@ -49,7 +49,7 @@ abbrev pub IsSystem : ℕ → ℕ → Type 0
 IsSystem second system = ((system ≤ LAST_SECOND) × (BEGINNING + system ≡ second))
     ⊎ ((system ≡ 0) × ((second < BEGINNING) ⊎ (BEGINNING + LAST_SECOND < second)))
 
--- By how many seconds the meter's clock is ahead: it shows the moment so many seconds after the system's. None if it shows no time.
+-- By how many seconds the meter's clock is ahead: it shows the moment this many seconds after the system's. None if it shows no time.
 abbrev pub IsAhead : Comparison → Option ℤ → Type 0
 IsAhead found ahead =
     IsMoment found.shown (option_map (λ seconds. seconds +ℤ pos found.system) ahead)

@@ -13,21 +13,18 @@ use crate::calling::call;
 use crate::clocks::{Limit, first_ahead, judge};
 use crate::guards::Guards;
 use crate::keeping::{file_readings, hold_file, open_readings};
-use crate::poll_inputs::{HostPollInputs, PollInputs};
+use crate::poll_inputs::PollInputs;
 use crate::secret::secret_to_send;
 use crate::way::{DonePoll, Way};
 use arrayvec::ArrayVec;
 use dlms_client::Route;
 use dlms_ends::RunFault;
-use dlms_filing::{FilePlace, Holding, HostDisk, Output};
+use dlms_filing::{Holding, Output};
 use dlms_frame::{Address, Client};
 use dlms_headend::{Columns, Plan, PollTerms, Readings, Row};
 use dlms_identity::Expected;
-use dlms_lines::{ClockFault, Dialling, FieldFault, MeterLine};
+use dlms_lines::{ClockFault, Dialling, FieldFault};
 use std::alloc::Global;
-use std::fs::{File, Files};
-use std::net::Net;
-use std::time::Clock;
 
 /// The meter to poll, the file, and the client that asks.
 #[derive(Clone, Copy)]
@@ -69,23 +66,6 @@ pub struct PollSetup<D, G, F, L> {
     pub guards: G,
     pub place: F,
     pub line: L,
-}
-
-impl<'r, R: Net + Files<File = File> + Clock, G> PollSetup<
-    HostPollInputs<'r, R>,
-    G,
-    FilePlace<HostDisk<'r, R>>,
-    MeterLine<'r, R>,
-> {
-    /// The system's clocks and files, these guards, and a line that is not connected yet, which waits for so many seconds for an answer.
-    pub fn of(rt: &'r R, wait: u32, guards: G) -> Self {
-        PollSetup {
-            inputs: HostPollInputs::new(rt),
-            guards,
-            place: FilePlace::of(rt),
-            line: MeterLine::until(rt).waiting(wait),
-        }
-    }
 }
 
 /// The secret and the readings, read before the meter is called.

@@ -67,7 +67,7 @@ pub const COLLECT: &str =
     "Each line of LIST is NAME PLACE, and if needed client=, server=, carrier=, secret-file=, security= or
 expect=, the logical device name. The rows of a meter go to NAME.csv in DIR, and are printed after its
 name. With --get its values are printed so instead, and nothing is filed; with --clock its time, and
-the seconds by which it is ahead; with --set also what was done, and both afterwards.
+the seconds by which it is ahead; with --set also the correction, and both after it.
 
 Examples:
   dlms collect meters.txt --readings readings --every 900 --failed failed.txt

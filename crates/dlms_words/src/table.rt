@@ -278,7 +278,7 @@ pub const COMMANDS: [CommandWords; 20] = [
             Argument {
                 name: "every",
                 kind: Kind::Number("SECONDS", 1, 31_536_000),
-                help: "Begins a round again each time after so many seconds",
+                help: "Seconds from the beginning of a round to that of the next",
             },
             Argument {
                 name: "retries",
