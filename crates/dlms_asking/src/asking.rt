@@ -5,7 +5,7 @@ ghost use Rattle.dlms_client.specs.Plan.{IsPlan, plan_of};
 use crate::clock::{ClockRequest, clock_request};
 use crate::counter::last_counter;
 use crate::given::value_given;
-use crate::over_line::{ask_over, ask_with_octets, ask_with_progress, is_long};
+use crate::over_line::{ask_over, ask_with_octets, ask_with_progress};
 use crate::profile::{ProfileRequest, request_of};
 use crate::requests::{MeterSession, read_name};
 use crate::route::route_of;
@@ -178,20 +178,35 @@ pub fn open_association<'a, S: End>(
     }
 }
 
-/// An association over a line, the request in it, and its end, also if the request failed. The request is taken once the association
-/// is open.
+/// An attempt to ask a meter, but for its line and what is printed.
+#[derive(Drop)]
+pub struct Attempt<'q, 'a> {
+    pub asking: &'q Asking<'a>,
+    pub plan: Plan,
+    /// What protects the association, if it is to be protected.
+    pub protection: Option<Protection>,
+    /// The request, which is taken once the association is open.
+    pub waiting: &'q mut Option<Request<'a>>,
+    /// The faults of single names.
+    pub refused: &'q mut Vec<Fault<'a>>,
+}
+
+/// An association over a line, the request in it, and its end, also if the request failed.
 #[inline(never)]
 pub fn exchange<'a, H: Clock + AllocGlobal, S: End, W: Write, P: Following>(
     host: &H,
-    asking: &Asking<'a>,
-    plan: Plan,
-    protection: Option<Protection>,
+    attempt: Attempt<'_, 'a>,
     line: &mut S,
-    waiting: &mut Option<Request<'a>>,
     output: &mut W,
     progress: &mut P,
-    refused: &mut Vec<Fault<'a>>,
 ) -> Result<(), Fault<'a>> {
+    let Attempt {
+        asking,
+        plan,
+        protection,
+        waiting,
+        refused,
+    } = attempt;
     let alloc = host.alloc();
     let place = asking.meter.place;
     let (guard, mut counters) = parted(protection);
@@ -391,43 +406,19 @@ fn ask_once<
         }
     };
     let mut refused = Vec::new(host.alloc());
+    let attempt = Attempt {
+        asking,
+        plan,
+        protection,
+        waiting,
+        refused: &mut refused,
+    };
     let told = if asking.verbose {
-        ask_over(
-            host,
-            asking,
-            plan,
-            protection,
-            line,
-            waiting,
-            output,
-            errors,
-            &mut Unfollowed,
-            &mut refused,
-        )
-    } else if is_long(waiting) {
-        ask_with_octets(
-            host,
-            asking,
-            plan,
-            protection,
-            line,
-            waiting,
-            output,
-            errors,
-            &mut refused,
-        )
+        ask_over(host, attempt, line, output, errors, &mut Unfollowed)
+    } else if attempt.counts_octets() {
+        ask_with_octets(host, attempt, line, output, errors)
     } else {
-        ask_with_progress(
-            host,
-            asking,
-            plan,
-            protection,
-            line,
-            waiting,
-            output,
-            errors,
-            &mut refused,
-        )
+        ask_with_progress(host, attempt, line, output, errors)
     };
     with_refused(host.alloc(), is_json, refused, told, errors)
 }

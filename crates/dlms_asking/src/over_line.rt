@@ -1,15 +1,13 @@
 //! A request over the line to a meter: its octets explained, or its progress shown.
 
-use crate::asking::{Request, exchange};
+use crate::asking::{Attempt, Request, exchange};
 use crate::explained_stream::{ExplainedStream, Explanation};
 use crate::watched_line::{CountsOctets, OctetProgress, WatchedLine};
 use dlms_call::CallFault;
-use dlms_client::{Plan, Route};
+use dlms_client::Route;
 use dlms_faults::Fault;
-use dlms_guards::Protection;
 use dlms_lines::{Dialling, MeterLine};
 use dlms_printing::{Following, Progress, Showing, Unfollowed};
-use dlms_words::Asking;
 use std::alloc::Global;
 use std::cell::RefCell;
 use std::fs::File;
@@ -83,45 +81,42 @@ pub fn ask_over<
     P: Following,
 >(
     host: &H,
-    asking: &Asking<'a>,
-    plan: Plan,
-    protection: Option<Protection>,
+    attempt: Attempt<'_, 'a>,
     line: L,
-    waiting: &mut Option<Request<'a>>,
     output: &mut W,
     explained: &mut X,
     progress: &mut P,
-    refused: &mut Vec<Fault<'a>>,
 ) -> Result<(), Fault<'a>> {
     let alloc = host.alloc();
-    let explanation = explanation(asking.verbose, plan.route);
+    let asking = attempt.asking;
+    let explanation = explanation(asking.verbose, attempt.plan.route);
     let mut line = match ExplainedStream::new(alloc, line, explanation, explained) {
         Ok(line) => line,
         Err(_) => {
-            drop(protection);
+            drop(attempt);
             return Err(Fault::MEMORY);
         }
     };
-    let talked = exchange(
-        host, asking, plan, protection, &mut line, waiting, output, progress, refused,
-    );
+    let talked = exchange(host, attempt, &mut line, output, progress);
     let told = with_system_error(alloc, asking.meter.place, talked, line.stream.error());
     close(line);
     told
 }
 
-/// Whether the progress of a request is shown.
-fn showing_of(waiting: &Option<Request<'_>>) -> Showing {
-    match waiting {
-        Some(Request::Profile(profile)) => profile.showing(),
-        Some(Request::List { showing, .. }) => *showing,
-        _ => Showing::Nothing,
+impl Attempt<'_, '_> {
+    /// Whether the progress of the request is shown.
+    fn showing(&self) -> Showing {
+        match &*self.waiting {
+            Some(Request::Profile(profile)) => profile.showing(),
+            Some(Request::List { showing, .. }) => *showing,
+            _ => Showing::Nothing,
+        }
     }
-}
 
-/// Whether the progress of a request is that of its octets.
-pub fn is_long(waiting: &Option<Request<'_>>) -> bool {
-    matches!(waiting, Some(Request::List { .. }))
+    /// Whether the progress of the request is that of its octets.
+    pub fn counts_octets(&self) -> bool {
+        matches!(&*self.waiting, Some(Request::List { .. }))
+    }
 }
 
 /// Asks a meter over the line to it, whose octets are counted.
@@ -133,27 +128,19 @@ fn ask_counted<
     P: CountsOctets + Drop,
 >(
     host: &H,
-    asking: &Asking<'a>,
-    plan: Plan,
-    protection: Option<Protection>,
+    attempt: Attempt<'_, 'a>,
     line: L,
-    waiting: &mut Option<Request<'a>>,
     output: &mut W,
     progress: &RefCell<P>,
-    refused: &mut Vec<Fault<'a>>,
 ) -> Result<(), Fault<'a>> {
     let line = WatchedLine { line, progress };
     ask_over(
         host,
-        asking,
-        plan,
-        protection,
+        attempt,
         line,
-        waiting,
         output,
         &mut io::sink(),
         &mut Unfollowed,
-        refused,
     )
 }
 
@@ -166,20 +153,14 @@ pub fn ask_with_octets<
     E: Write,
 >(
     host: &H,
-    asking: &Asking<'a>,
-    plan: Plan,
-    protection: Option<Protection>,
+    attempt: Attempt<'_, 'a>,
     line: L,
-    waiting: &mut Option<Request<'a>>,
     output: &mut W,
     errors: &mut E,
-    refused: &mut Vec<Fault<'a>>,
 ) -> Result<(), Fault<'a>> {
-    let showing = showing_of(waiting);
+    let showing = attempt.showing();
     let progress = RefCell::new(OctetProgress::new(host, host.alloc(), errors, showing));
-    let told = ask_counted(
-        host, asking, plan, protection, line, waiting, output, &progress, refused,
-    );
+    let told = ask_counted(host, attempt, line, output, &progress);
     if let Ok(mut progress) = progress.try_borrow_mut() {
         progress.end();
     }
@@ -196,28 +177,13 @@ pub fn ask_with_progress<
     E: Write,
 >(
     host: &H,
-    asking: &Asking<'a>,
-    plan: Plan,
-    protection: Option<Protection>,
+    attempt: Attempt<'_, 'a>,
     line: L,
-    waiting: &mut Option<Request<'a>>,
     output: &mut W,
     errors: &mut E,
-    refused: &mut Vec<Fault<'a>>,
 ) -> Result<(), Fault<'a>> {
-    let mut progress = Progress::new(host, host.alloc(), errors, showing_of(waiting));
-    let told = ask_over(
-        host,
-        asking,
-        plan,
-        protection,
-        line,
-        waiting,
-        output,
-        &mut io::sink(),
-        &mut progress,
-        refused,
-    );
+    let mut progress = Progress::new(host, host.alloc(), errors, attempt.showing());
+    let told = ask_over(host, attempt, line, output, &mut io::sink(), &mut progress);
     drop(progress);
     told
 }

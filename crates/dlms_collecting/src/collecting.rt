@@ -11,7 +11,7 @@ use crate::list::{Defaults, Meter, read_list};
 use crate::meter_file::path_of;
 use crate::named::RowFormat;
 use crate::report::{Tally, failed_lines, print_failures, print_tally};
-use crate::round::{Round, moment};
+use crate::round::{Round, RoundSetup, moment};
 use crate::values::ValueText;
 use dlms_filing::{FilePlace, Filing, Holding, HostDisk, Output};
 use dlms_inquiries::{Comparison, is_off};
@@ -186,7 +186,6 @@ fn probe_of<'a, R: Files<File = File> + AllocGlobal>(
 /// Runs a round, and reports its result.
 fn run_round<
     'a,
-    'l,
     R: Net + Files<File = File> + Clock + AllocGlobal + RandomSource,
     O: Output,
     E: Write,
@@ -194,45 +193,30 @@ fn run_round<
     F: Filing,
 >(
     rt: &R,
-    collection: &'l Collection<'a>,
-    texts: &'l T,
-    meters: &'l [Meter<'a>],
-    probe: &'l str,
-    seats: usize,
-    shows: bool,
+    setup: &RoundSetup<'a, '_, T>,
     failed: &mut F,
-    output: &'l mut O,
-    errors: &'l mut E,
+    output: &mut O,
+    errors: &mut E,
 ) -> Result<Tally, CollectFault<'a>> {
     let alloc = rt.alloc();
-    let mut round = Round::new(
-        rt,
-        &*collection,
-        &*texts,
-        &*meters,
-        &*probe,
-        seats,
-        shows,
-        &mut *output,
-        &mut *errors,
-    )?;
+    let mut round = Round::new(rt, setup, output, errors)?;
     let ended = round.run();
     let tally = round.tally();
     let failures = round.into_failures();
     ended?;
     print_failures(
         alloc,
-        texts,
-        collection,
-        meters,
+        setup.texts,
+        setup.collection,
+        setup.meters,
         failures.as_slice(),
         errors,
     )?;
-    if !collection.quiet {
-        print_tally(&tally, collection.purpose, errors);
+    if !setup.collection.quiet {
+        print_tally(&tally, setup.collection.purpose, errors);
     }
-    let text = failed_lines(alloc, meters, failures.as_slice())?;
-    put_failed(failed, collection, text.as_str())?;
+    let text = failed_lines(alloc, setup.meters, failures.as_slice())?;
+    put_failed(failed, setup.collection, text.as_str())?;
     Ok(tally)
 }
 
@@ -263,22 +247,18 @@ pub fn collect<
     let probe = probe_of(rt, collection.purpose)?;
     let mut failed = hold_failed(rt, collection)?;
     let seats = seats(collection, meters.len(), errors);
-    let shows = is_terminal && !collection.quiet;
+    let setup = RoundSetup {
+        collection,
+        texts,
+        meters: meters.as_slice(),
+        probe: probe.as_str(),
+        seats,
+        shows: is_terminal && !collection.quiet,
+    };
     let mut tally = Tally::new();
     'rounds: for _ in 0..u64::MAX {
         let start = moment(rt)?;
-        tally = run_round(
-            rt,
-            collection,
-            texts,
-            meters.as_slice(),
-            probe.as_str(),
-            seats,
-            shows,
-            &mut failed,
-            output,
-            errors,
-        )?;
+        tally = run_round(rt, &setup, &mut failed, output, errors)?;
         if collection.every == 0 {
             break;
         }

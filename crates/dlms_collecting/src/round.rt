@@ -54,9 +54,23 @@ enum Finished {
     Failed(MeterFault),
 }
 
+/// The meters of a round, and how they are polled.
+#[derive(Drop)]
+pub struct RoundSetup<'a, 'l, T> {
+    pub collection: &'l Collection<'a>,
+    pub texts: &'l T,
+    pub meters: &'l [Meter<'a>],
+    /// A path in the folder of the readings files.
+    pub probe: &'l str,
+    /// How many polls may run at once.
+    pub seats: usize,
+    /// Whether progress is shown.
+    pub shows: bool,
+}
+
 /// A round: the jobs that run and the meters that wait, and the result of the others.
 #[derive(Drop)]
-pub struct Round<'a, 'l, 'r, R, T, O, E> {
+pub struct Round<'a, 'l, 'o, 'r, R, T, O, E> {
     rt: &'r R,
     collection: &'l Collection<'a>,
     texts: &'l T,
@@ -74,8 +88,8 @@ pub struct Round<'a, 'l, 'r, R, T, O, E> {
     progress: Progress,
     tally: Tally,
     failures: Vec<Failure>,
-    output: &'l mut O,
-    errors: &'l mut E,
+    output: &'o mut O,
+    errors: &'o mut E,
 }
 
 /// The limits of a poll with this deadline in seconds. Nothing is on a connection before its poll begins.
@@ -146,47 +160,43 @@ fn system_second<'a, R: Clock>(rt: &R) -> Result<u64, CollectFault<'a>> {
 impl<
     'a,
     'l,
+    'o,
     'r,
     R: Net + Files<File = File> + Clock + AllocGlobal + RandomSource,
     T: FaultText + ValueText,
     O: Output,
     E: Write,
-> Round<'a, 'l, 'r, R, T, O, E> {
-    /// A round over these meters on this many seats. `probe` is a path in the folder of the readings files.
+> Round<'a, 'l, 'o, 'r, R, T, O, E> {
+    /// A round that is not begun.
     pub fn new(
         rt: &'r R,
-        collection: &'l Collection<'a>,
-        texts: &'l T,
-        meters: &'l [Meter<'a>],
-        probe: &'l str,
-        seats: usize,
-        shows: bool,
-        output: &'l mut O,
-        errors: &'l mut E,
+        setup: &RoundSetup<'a, 'l, T>,
+        output: &'o mut O,
+        errors: &'o mut E,
     ) -> Result<Self, CollectFault<'a>> {
         let alloc = rt.alloc();
-        let wires = match Wires::new(rt, alloc, seats) {
+        let wires = match Wires::new(rt, alloc, setup.seats) {
             Ok(wires) => wires,
             Err(error) => return Err(CollectFault::Wait(error)),
         };
         let now = moment(rt)?;
-        let clocks = match collection.purpose {
-            Purpose::Clock(Some(_)) => meters.len(),
+        let clocks = match setup.collection.purpose {
+            Purpose::Clock(Some(_)) => setup.meters.len(),
             _ => 0,
         };
         Ok(Round {
             rt,
-            collection,
-            texts,
-            meters,
-            probe,
-            fleet: Fleet::new(alloc, limits(collection.deadline), seats)?,
+            collection: setup.collection,
+            texts: setup.texts,
+            meters: setup.meters,
+            probe: setup.probe,
+            fleet: Fleet::new(alloc, limits(setup.collection.deadline), setup.seats)?,
             wires,
             schedule: Schedule::new(alloc),
-            are_known: all_unknown(alloc, meters.len())?,
+            are_known: all_unknown(alloc, setup.meters.len())?,
             found: no_clocks(alloc, clocks)?,
             pace: Pace::new(now),
-            progress: Progress::new(shows, now),
+            progress: Progress::new(setup.shows, now),
             tally: Tally::new(),
             failures: Vec::new(alloc),
             output,
