@@ -20,7 +20,7 @@ pub const GET_LIST: [u8; 13] = [0xc0, 0x01, 0xc1, 0, 15, 0, 0, 40, 0, 0, 255, 2,
 const GET_SECOND: [u8; 7] = [0xc0, 0x02, 0xc1, 0, 0, 0, 1];
 
 /// The first heap has room for a meter's lines and rows, and for little more.
-pub const LEAST: usize = 56_840;
+pub const LEAST: usize = 51_720;
 
 /// How many heaps there are.
 const HEAPS: usize = 128;
