@@ -1,4 +1,4 @@
--- Lengths, numbers and counted octets at the front of bytes (A-XDR, IEC 61334-6), with the first fault that is met.
+-- Lengths, numbers and counted octets at the front of bytes (A-XDR, IEC 61334-6), and the first thing that is wrong with them.
 use Rattle.std.specs.Prelude.{◌≡◌, ℕ, ◌-◌, List, [], ◌∷◌, length, take, drop, Result, Ok, Err, IfOk, IsOkAnd, nat_lt, ◌||◌, if◌then◌else◌}
 use Rattle.byteorder.specs.Endian.{big_number}
 use Rattle.dlms_axdr.specs.declared.fault.DataFault.{DataFault}

@@ -26,7 +26,7 @@ enum Found {
 }
 
 /// Finds the APDUs of a stream, in HDLC frames or in messages of the wrapper, and joins segments and blocks; or its telegrams. It
-/// allocates nothing and takes some 34 KB. After each `feed` look at `noise`, `skipped`, `apdu` and `telegram`.
+/// allocates nothing and takes some 29 KB. After each `feed` look at `noise`, `skipped`, `apdu` and `telegram`.
 #[derive(Drop)]
 pub struct Listener {
     carrier: Option<Carrier>,

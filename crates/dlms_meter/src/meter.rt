@@ -33,7 +33,7 @@ use std::alloc::{Allocator, Global};
 
 /// A meter with its registers, its clock and its load profile, which its clients read and set over one line, each with a link,
 /// an association and transfers of its own. What an answer of success, or with data, speaks of outlasts a stop of the power.
-/// The line and the connections, some 34 KB, are on the heap: `format` and `recover` take memory for them, and no other call does.
+/// The line and the connections, some 29 KB, are on the heap: `format` and `recover` take memory for them, and no other call does.
 #[derive(Drop)]
 pub struct Meter<P: Pages, A: Allocator + Copy = Global> {
     alloc: A,
