@@ -13,7 +13,7 @@ use crate::named::RowFormat;
 use crate::report::{Tally, failed_lines, print_failures, print_tally};
 use crate::round::{Round, RoundSetup, moment};
 use crate::values::ValueText;
-use dlms_filing::{FilePlace, Filing, Holding, HostDisk, Output};
+use dlms_filing::{FilePlace, Filing, Holding, Output};
 use dlms_inquiries::{Comparison, is_off};
 use dlms_pages::sync_folder;
 use dlms_text::Name;
@@ -125,21 +125,17 @@ fn seats<E: Write>(collection: &Collection<'_>, meters: usize, errors: &mut E) -
     seats
 }
 
-/// The file of the meters that failed, held if one is wanted.
-fn hold_failed<'a, 'r, R: Files<File = File> + AllocGlobal>(
-    rt: &'r R,
+/// Holds the file of the meters that failed, if one is wanted.
+fn hold_failed<'a, F: Holding>(
+    place: &mut F,
     collection: &Collection<'a>,
-) -> Result<FilePlace<HostDisk<'r, R>>, CollectFault<'a>> {
-    let mut place = FilePlace::of(rt);
+) -> Result<(), CollectFault<'a>> {
     let Some(file) = collection.failed else {
-        return Ok(place);
+        return Ok(());
     };
     match place.hold(file) {
-        Ok(()) => Ok(place),
-        Err(error) => {
-            drop(place);
-            Err(CollectFault::System(file, error))
-        }
+        Ok(()) => Ok(()),
+        Err(error) => Err(CollectFault::System(file, error)),
     }
 }
 
@@ -220,6 +216,34 @@ fn run_round<
     Ok(tally)
 }
 
+/// Runs one round, or one after the other, and returns the result of the last one.
+fn run_rounds<
+    'a,
+    R: Net + Files<File = File> + Clock + AllocGlobal + RandomSource,
+    O: Output,
+    E: Write,
+    T: FaultText + ValueText,
+    F: Filing,
+>(
+    rt: &R,
+    setup: &RoundSetup<'a, '_, T>,
+    failed: &mut F,
+    output: &mut O,
+    errors: &mut E,
+) -> Result<Tally, CollectFault<'a>> {
+    let every = setup.collection.every;
+    let mut tally = Tally::new();
+    'rounds: for _ in 0..u64::MAX {
+        let start = moment(rt)?;
+        tally = run_round(rt, setup, failed, output, errors)?;
+        if every == 0 {
+            break;
+        }
+        wait_for_round(rt, start, moment(rt)?, every);
+    }
+    Ok(tally)
+}
+
 /// Polls the meters of a list side by side, and files the rows of each into `FOLDER/NAME.csv` by the rules of `poll`: the new rows are
 /// printed in the wanted format before their file is put. Or requests attributes of them, or compares and corrects their clocks, and
 /// prints the values or clocks as `texts` has them. A meter of which a text is expected shows it before. After a round a line on the
@@ -245,7 +269,8 @@ pub fn collect<
         Err(fault) => return Err(CollectFault::List(fault)),
     };
     let probe = probe_of(rt, collection.purpose)?;
-    let mut failed = hold_failed(rt, collection)?;
+    let mut failed = FilePlace::of(rt);
+    hold_failed(&mut failed, collection)?;
     let seats = seats(collection, meters.len(), errors);
     let setup = RoundSetup {
         collection,
@@ -255,14 +280,5 @@ pub fn collect<
         seats,
         shows: is_terminal && !collection.quiet,
     };
-    let mut tally = Tally::new();
-    'rounds: for _ in 0..u64::MAX {
-        let start = moment(rt)?;
-        tally = run_round(rt, &setup, &mut failed, output, errors)?;
-        if collection.every == 0 {
-            break;
-        }
-        wait_for_round(rt, start, moment(rt)?, collection.every);
-    }
-    Ok(tally)
+    run_rounds(rt, &setup, &mut failed, output, errors)
 }

@@ -16,6 +16,7 @@ mod own;
 mod pace;
 mod progress;
 mod report;
+mod results;
 mod round;
 mod schedule;
 mod texts;

@@ -10,7 +10,7 @@ use crate::fault::MeterFault;
 use crate::grouped::{GroupPlace, group_place};
 use crate::own::own_job;
 use dlms_data::LAST_SECOND;
-use dlms_filing::{Filing, Output};
+use dlms_filing::{Filing, Holding, Output};
 use dlms_fleet::Numbered;
 use dlms_headend::{Readings, Row};
 use dlms_inquiries::MeterJob;
@@ -30,6 +30,21 @@ pub struct MeterFile<'r, R> {
 /// The path of the readings file of a name in this folder.
 pub fn path_of(alloc: Global, folder: &str, name: &str) -> Result<String, AllocError> {
     format!(in alloc; "{folder}/{name}.csv")
+}
+
+/// Holds the readings file at this path, and reads it.
+fn hold_and_read<F: Holding>(
+    alloc: Global,
+    place: &mut F,
+    path: &str,
+) -> Result<Readings, MeterFault> {
+    if let Err(fault) = hold_file(place, Some(path)) {
+        return Err(MeterFault::of_file(fault));
+    }
+    match open_readings(alloc, Some(path), place) {
+        Ok(readings) => Ok(readings),
+        Err(fault) => Err(MeterFault::of_file(fault)),
+    }
 }
 
 /// Judges the rows of a poll that is done, prints the new ones, and files them at this path. The number of rows that are left out is
@@ -88,19 +103,14 @@ impl<'r, R: Files<File = File> + AllocGlobal> MeterFile<'r, R> {
     /// Holds and reads the file at this path.
     pub fn open(rt: &'r R, path: String) -> Result<Self, MeterFault> {
         let mut place = group_place(rt);
-        if let Err(fault) = hold_file(&mut place, Some(path.as_str())) {
-            return Err(MeterFault::of_file(fault));
+        match hold_and_read(rt.alloc(), &mut place, path.as_str()) {
+            Ok(readings) => Ok(MeterFile {
+                path,
+                place,
+                readings,
+            }),
+            Err(fault) => Err(fault),
         }
-        let opened = match open_readings(rt.alloc(), Some(path.as_str()), &mut place) {
-            Ok(readings) => Ok(readings),
-            Err(fault) => Err(MeterFault::of_file(fault)),
-        };
-        let readings = opened?;
-        Ok(MeterFile {
-            path,
-            place,
-            readings,
-        })
     }
 
     /// The last row of the file.

@@ -9,7 +9,7 @@ ghost use Rattle.dlms_inquiries.specs.Clocks.{IsSystem};
 
 use crate::fault::MeterFault;
 use crate::list::Meter;
-use crate::meter_file::MeterFile;
+use crate::meter_file::{MeterFile, path_of};
 use crate::own::own_job;
 use arrayvec::ArrayVec;
 use dlms_client::Plan;
@@ -120,7 +120,7 @@ const MEMORY: MeterFault = MeterFault::Other(RunFault::Memory);
 
 impl<'r, R: Files<File = File> + Clock + AllocGlobal + RandomSource> Order<'r, R> {
     /// For the meter with this number, with this readings file or with none.
-    pub fn new(number: usize, file: Option<MeterFile<'r, R>>) -> Self {
+    fn new(number: usize, file: Option<MeterFile<'r, R>>) -> Self {
         Order {
             number,
             file,
@@ -155,7 +155,7 @@ impl<'r, R: Files<File = File> + Clock + AllocGlobal + RandomSource> Order<'r, R
 
     /// The job that polls the meter from the last row of its file on, with the order's number. `read_list` gives no meter an unlawful
     /// route; one that has one is refused as a line that failed.
-    pub fn poll(&mut self, rt: &R, meter: &Meter<'_>) -> Result<Numbered<MeterJob>, MeterFault>
+    fn poll(&mut self, rt: &R, meter: &Meter<'_>) -> Result<Numbered<MeterJob>, MeterFault>
         ensures { IfOk result (λ job. IsNewPoll self.old.number meter.now.route job) }
     {
         let number = self.number;
@@ -197,7 +197,7 @@ impl<'r, R: Files<File = File> + Clock + AllocGlobal + RandomSource> Order<'r, R
     }
 
     /// The job that requests the text which the meter has to show.
-    pub fn ask_text(
+    fn ask_text(
         &mut self,
         rt: &R,
         meter: &Meter<'_>,
@@ -213,7 +213,7 @@ impl<'r, R: Files<File = File> + Clock + AllocGlobal + RandomSource> Order<'r, R
     }
 
     /// The job that requests these attributes.
-    pub fn ask_values(
+    fn ask_values(
         &mut self,
         rt: &R,
         meter: &Meter<'_>,
@@ -230,7 +230,7 @@ impl<'r, R: Files<File = File> + Clock + AllocGlobal + RandomSource> Order<'r, R
 
     /// The job that reads the meter's clock, after it is corrected if it was found so in an order before. It begins at this second of the
     /// system's clock.
-    pub fn ask_clock(
+    fn ask_clock(
         &mut self,
         rt: &R,
         meter: &Meter<'_>,
@@ -248,6 +248,59 @@ impl<'r, R: Files<File = File> + Clock + AllocGlobal + RandomSource> Order<'r, R
             number: meter_number,
             job: MeterJob::Clock(job),
         })
+    }
+
+    /// The order that requests the text which the meter has to show, and its job.
+    pub fn for_text(
+        rt: &'r R,
+        number: usize,
+        meter: &Meter<'_>,
+        expected: &Expected<'_>,
+    ) -> Result<(Self, Numbered<MeterJob>), MeterFault> {
+        let mut order = Order::new(number, None);
+        let job = order.ask_text(rt, meter, expected)?;
+        Ok((order, job))
+    }
+
+    /// The order that polls the meter into its readings file in this folder, which it holds, and its job.
+    pub fn for_poll(
+        rt: &'r R,
+        number: usize,
+        meter: &Meter<'_>,
+        folder: &str,
+    ) -> Result<(Self, Numbered<MeterJob>), MeterFault> {
+        let Ok(path) = path_of(rt.alloc(), folder, meter.name) else {
+            return Err(MEMORY);
+        };
+        let mut order = Order::new(number, Some(MeterFile::open(rt, path)?));
+        let job = order.poll(rt, meter)?;
+        Ok((order, job))
+    }
+
+    /// The order that requests these attributes, and its job.
+    pub fn for_values(
+        rt: &'r R,
+        number: usize,
+        meter: &Meter<'_>,
+        names: &[Name],
+    ) -> Result<(Self, Numbered<MeterJob>), MeterFault> {
+        let mut order = Order::new(number, None);
+        let job = order.ask_values(rt, meter, names)?;
+        Ok((order, job))
+    }
+
+    /// The order that reads the meter's clock, after it is corrected if it was found so, and its job, which begins at this second of the
+    /// system's clock.
+    pub fn for_clock(
+        rt: &'r R,
+        number: usize,
+        meter: &Meter<'_>,
+        found: Option<Comparison>,
+        second: u64,
+    ) -> Result<(Self, Numbered<MeterJob>), MeterFault> {
+        let mut order = Order::new(number, None);
+        let job = order.ask_clock(rt, meter, found, second)?;
+        Ok((order, job))
     }
 
     /// Keeps the meter's counter after a protected association, whatever came of it. One whose first message is not newer than those of
