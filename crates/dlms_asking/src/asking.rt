@@ -1,18 +1,16 @@
 //! A meter that is asked: the line to it, the association, and the request.
 
-ghost use Rattle.dlms_client.specs.Plan.{IsPlan, plan_of};
-
 use crate::clock::{ClockRequest, clock_request};
-use crate::counter::last_counter;
+use crate::connection::{Calls, open_association};
 use crate::given::value_given;
-use crate::over_line::{ask_over, ask_with_octets, ask_with_progress};
+use crate::over_line::ask_on;
 use crate::profile::{ProfileRequest, request_of};
-use crate::requests::{MeterSession, read_name};
+use crate::requests::{MeterSession, first_fault, read_method, read_name};
 use crate::route::route_of;
-use crate::security::{heed_counter, keep_counter, parted, protection_for};
+use crate::security::{heed_counter, keep_counter, parted, protection_with};
 use crate::setting::{Given, given_in};
 use arrayvec::ArrayVec;
-use dlms_call::{CallFault, ClientEnd, begin};
+use dlms_call::CallFault;
 use dlms_client::Plan;
 use dlms_data::Data;
 use dlms_ends::End;
@@ -20,10 +18,10 @@ use dlms_faults::Fault;
 use dlms_frame::Client;
 use dlms_guards::Protection;
 use dlms_headend::PollFault;
+use dlms_keys::StoredCounters;
 use dlms_lines::{Dialling, FieldFault, MeterLine};
 use dlms_polling::{HostPollInputs, PollInputs, secret_of};
-use dlms_printing::{Following, ListForm, Showing, Unfollowed, put_fault};
-use dlms_secured::{Guard, SecuredFault};
+use dlms_printing::{Following, ListForm, Showing, put_fault};
 use dlms_words::{
     ActOptions, Asking, ClockOptions, GetOptions, ListOptions, MeterOptions, OutputFormat,
     ProfileOptions, SetOptions, ValueFormat,
@@ -46,7 +44,7 @@ pub const FEW_COUNTERS: u32 = 1_000;
 const NAME_COUNTERS: u32 = 16;
 
 /// How many attributes of an object list are read at most with the counters of one association.
-const MOST_LISTED: usize = 4_096;
+const MOST_LISTED: u32 = 4_096;
 
 /// The octets of a value in a block, for which further counters are reserved.
 const LEAST_BLOCK: u32 = 512;
@@ -109,9 +107,9 @@ fn secret<'a, H: Files + Clock>(
 
 /// The request, once the association is open.
 #[inline(never)]
-fn run_request<'a, H: Clock, S: End, W: Write, P: Following>(
+fn run_request<'a, H: Clock, C: Calls, W: Write, P: Following>(
     host: &H,
-    talk: &mut MeterSession<'a, '_, S>,
+    talk: &mut MeterSession<'a, '_, C>,
     request: Request<'a>,
     output: &mut W,
     progress: &mut P,
@@ -140,44 +138,6 @@ fn run_request<'a, H: Clock, S: End, W: Write, P: Following>(
     }
 }
 
-/// An association over a line, on the heap.
-#[inline(never)]
-fn associate<S: End>(
-    alloc: Global,
-    plan: Plan,
-    guard: Option<Box<Guard>>,
-    line: &mut S,
-) -> Result<Box<ClientEnd<Global>>, CallFault>
-    requires { IsPlan (plan_of plan) }
-{
-    match begin(alloc, line, plan, guard) {
-        Ok(head) => match Box::new(alloc, head) {
-            Ok(head) => Ok(head),
-            Err(_) => Err(CallFault::Memory),
-        },
-        Err(fault) => Err(fault),
-    }
-}
-
-/// An association over a line, if its addresses are valid.
-#[inline(never)]
-pub fn open_association<'a, S: End>(
-    alloc: Global,
-    place: &'a str,
-    plan: Plan,
-    guard: Option<Box<Guard>>,
-    line: &mut S,
-) -> Result<Box<ClientEnd<Global>>, Fault<'a>> {
-    if !plan.is_lawful() {
-        drop(guard);
-        return Err(Fault::Server(place));
-    }
-    match associate(alloc, plan, guard, line) {
-        Ok(head) => Ok(head),
-        Err(fault) => Err(Fault::of_call(place, fault)),
-    }
-}
-
 /// An attempt to ask a meter, but for its line and what is printed.
 #[derive(Drop)]
 pub struct Attempt<'q, 'a> {
@@ -189,6 +149,46 @@ pub struct Attempt<'q, 'a> {
     pub waiting: &'q mut Option<Request<'a>>,
     /// The faults of single names.
     pub refused: &'q mut Vec<Fault<'a>>,
+}
+
+/// The request to make by an open association, and the counters of its protection.
+struct Inquiry<'q, 'a> {
+    asking: &'q Asking<'a>,
+    counters: &'q mut Option<Box<StoredCounters>>,
+    waiting: &'q mut Option<Request<'a>>,
+    refused: &'q mut Vec<Fault<'a>>,
+}
+
+/// Makes a request by an open association, and ends the association, also if the request failed.
+fn converse<'a, H: Clock + AllocGlobal, C: Calls, W: Write, P: Following>(
+    host: &H,
+    inquiry: Inquiry<'_, 'a>,
+    calls: &mut C,
+    output: &mut W,
+    progress: &mut P,
+) -> Result<(), Fault<'a>> {
+    let Inquiry {
+        asking,
+        counters,
+        waiting,
+        refused,
+    } = inquiry;
+    let alloc = host.alloc();
+    heed_counter(alloc, &asking.meter, counters, calls)?;
+    let Some(request) = waiting.take() else {
+        return Ok(());
+    };
+    let mut talk = MeterSession {
+        alloc,
+        place: asking.meter.place,
+        calls,
+        most: asking.most,
+        refused,
+    };
+    let outcome = run_request(host, &mut talk, request, output, progress);
+    talk.end();
+    let kept = keep_counter(&asking.meter, counters, talk.calls);
+    first_fault(outcome, kept)
 }
 
 /// An association over a line, the request in it, and its end, also if the request failed.
@@ -207,51 +207,29 @@ pub fn exchange<'a, H: Clock + AllocGlobal, S: End, W: Write, P: Following>(
         waiting,
         refused,
     } = attempt;
-    let alloc = host.alloc();
-    let place = asking.meter.place;
     let (guard, mut counters) = parted(protection);
-    let head = match open_association(alloc, place, plan, guard, line) {
-        Ok(head) => head,
+    let mut connection = match open_association(
+        host.alloc(),
+        asking.meter.place,
+        plan,
+        guard,
+        line,
+    ) {
+        Ok(connection) => connection,
         Err(fault) => return Err(fault),
     };
-    heed_counter(alloc, &asking.meter, &mut counters, &head)?;
-    let Some(request) = waiting.take() else {
-        return Ok(());
-    };
-    let mut talk = MeterSession {
-        alloc,
-        place,
-        line,
-        head,
-        most: asking.most,
+    let inquiry = Inquiry {
+        asking,
+        counters: &mut counters,
+        waiting,
         refused,
     };
-    let outcome = run_request(host, &mut talk, request, output, progress);
-    talk.end();
-    let kept = keep_counter(&asking.meter, &mut counters, &talk.head);
-    outcome?;
-    kept
+    converse(host, inquiry, &mut connection, output, progress)
 }
 
-/// Looks at the names of a request.
-fn look<'a>(request: &Request<'a>) -> Result<(), Fault<'a>> {
-    let names = match request {
-        Request::Get { names, .. } => names,
-        Request::List { .. } | Request::Clock(_) => return Ok(()),
-        Request::Set { name, .. } => name,
-        Request::Profile(profile) => {
-            read_name(profile.name())?;
-            return Ok(());
-        }
-        Request::Act { name, .. } => {
-            return if read_name(name)?.number.is_some() {
-                Ok(())
-            } else {
-                Err(Fault::Name(name))
-            };
-        }
-    };
-    let mut rest: &'a str = names;
+/// Looks at names, which commas separate.
+fn look_at_names<'a>(names: &'a str) -> Result<(), Fault<'a>> {
+    let mut rest = names;
     'names: for _name in 0..names.len() {
         match rest.split_once(',') {
             Some((said, behind)) => {
@@ -263,6 +241,21 @@ fn look<'a>(request: &Request<'a>) -> Result<(), Fault<'a>> {
     }
     read_name(rest)?;
     Ok(())
+}
+
+/// Looks at the names of a request.
+fn look<'a>(request: &Request<'a>) -> Result<(), Fault<'a>> {
+    let read = match request {
+        Request::List { .. } | Request::Clock(_) => return Ok(()),
+        Request::Get { names, .. } => return look_at_names(names),
+        Request::Set { name, .. } => return look_at_names(name),
+        Request::Profile(profile) => read_name(profile.name()),
+        Request::Act { name, .. } => read_method(name),
+    };
+    match read {
+        Ok(_) => Ok(()),
+        Err(fault) => Err(fault),
+    }
 }
 
 /// Connects a line to the meter at a place, by the address or the device of it.
@@ -296,20 +289,28 @@ pub fn line_to<'a, 'r, H: Net + Files<File = File> + Clock + AllocGlobal>(
     }
 }
 
+/// The names after the first one, which commas separate.
+fn further_names(names: &str) -> u32 {
+    let mut count: u32 = 0;
+    for octet in names.as_bytes() {
+        if *octet == b',' {
+            count = count.saturating_add(1);
+        }
+    }
+    count
+}
+
 /// How many frame counters are reserved for an association with this request: a step, with some for each name, and as many as the
 /// longest value may need messages.
 fn counters_for(asking: &Asking<'_>, request: &Request<'_>) -> u32 {
     let names = match request {
         Request::Set { .. } | Request::Act { .. } | Request::Clock(_) => return FEW_COUNTERS,
-        Request::Get { names, .. } => names.bytes().filter(|octet| *octet == b',').count(),
+        Request::Get { names, .. } => further_names(names),
         Request::List { form, .. } if form.has_values() => MOST_LISTED,
         _ => 0,
     };
-    let for_names = u32::try_from(names)
-        .unwrap_or(0)
-        .saturating_mul(NAME_COUNTERS);
     FEW_COUNTERS
-        .saturating_add(for_names)
+        .saturating_add(names.saturating_mul(NAME_COUNTERS))
         .saturating_add(asking.most / LEAST_BLOCK)
 }
 
@@ -319,16 +320,10 @@ fn protection<'a, H: Net + Files<File = File> + Clock + AllocGlobal + RandomSour
     asking: &Asking<'a>,
     waiting: &Option<Request<'a>>,
 ) -> Result<Option<Protection>, Fault<'a>> {
-    let (Some(_), Some(request)) = (asking.meter.security, waiting) else {
-        return Ok(None);
-    };
-    let last = match asking.meter.counter_from {
-        Some(name) => Some(last_counter(host, &asking.meter, name)?),
-        None => None,
-    };
-    let count = counters_for(asking, request);
-    let protection = protection_for(host, &asking.meter, last, count)?;
-    Ok(Some(protection))
+    match waiting {
+        Some(request) => protection_with(host, &asking.meter, counters_for(asking, request)),
+        None => Ok(None),
+    }
 }
 
 /// The call that is asked for, if the request's names are valid.
@@ -413,22 +408,24 @@ fn ask_once<
         waiting,
         refused: &mut refused,
     };
-    let told = if asking.verbose {
-        ask_over(host, attempt, line, output, errors, &mut Unfollowed)
-    } else if attempt.counts_octets() {
-        ask_with_octets(host, attempt, line, output, errors)
-    } else {
-        ask_with_progress(host, attempt, line, output, errors)
-    };
+    let told = ask_on(host, attempt, line, output, errors);
     with_refused(host.alloc(), is_json, refused, told, errors)
 }
 
 /// Whether the meter at this place did not answer, or its connection was refused or lost.
-pub fn is_silence(place: &str, fault: &Fault<'_>) -> bool {
+fn is_silence(place: &str, fault: &Fault<'_>) -> bool {
     match fault {
         Fault::System(at, _) => *at == place,
         Fault::Late(..) | Fault::Poll(_, PollFault::Line) | Fault::Call(_, CallFault::Io) => true,
         _ => false,
+    }
+}
+
+/// Whether this is the result of asking a meter that did not answer.
+pub fn is_unanswered<T>(place: &str, told: &Result<T, Fault<'_>>) -> bool {
+    match told {
+        Ok(_) => false,
+        Err(fault) => is_silence(place, fault),
     }
 }
 
@@ -444,6 +441,28 @@ fn call_again<'a, H: Files<File = File> + Clock + AllocGlobal>(
     }
 }
 
+/// Calls a meter again, a second later, for the request that waits.
+fn ask_again<
+    'a,
+    H: Net + Files<File = File> + Clock + AllocGlobal + RandomSource,
+    W: Write,
+    E: Write,
+>(
+    host: &H,
+    asking: &Asking<'a>,
+    waiting: &mut Option<Request<'a>>,
+    output: &mut W,
+    errors: &mut E,
+) -> Result<(), Fault<'a>> {
+    let mut inputs = HostPollInputs::new(host);
+    inputs.pause();
+    match call_again(host, asking, waiting) {
+        Ok(Some(call)) => ask_once(host, asking, call, waiting, output, errors),
+        Ok(None) => Ok(()),
+        Err(fault) => Err(fault),
+    }
+}
+
 /// Calls a meter. One that does not answer is called again, a second later, as often as `--retries` says, but not once it may have
 /// got the request.
 fn ask_by<'a, H: Net + Files<File = File> + Clock + AllocGlobal + RandomSource, W: Write, E: Write>(
@@ -456,19 +475,10 @@ fn ask_by<'a, H: Net + Files<File = File> + Clock + AllocGlobal + RandomSource, 
 ) -> Result<(), Fault<'a>> {
     let mut told = ask_once(host, asking, call, waiting, output, errors);
     'calls: for _call in 0..asking.meter.retries.unwrap_or(0) {
-        if waiting.is_none() {
+        if waiting.is_none() || !is_unanswered(asking.meter.place, &told) {
             return told;
         }
-        match told {
-            Err(fault) if is_silence(asking.meter.place, &fault) => drop(fault),
-            told => return told,
-        }
-        let mut inputs = HostPollInputs::new(host);
-        inputs.pause();
-        let Some(call) = call_again(host, asking, waiting)? else {
-            return Ok(());
-        };
-        told = ask_once(host, asking, call, waiting, output, errors);
+        told = ask_again(host, asking, waiting, output, errors);
     }
     told
 }

@@ -1,10 +1,9 @@
 //! Requests that change a meter: an attribute is set, or a method called, and the output for that.
 
-use crate::requests::{CLOCK, MeterSession, SECOND};
+use crate::connection::Calls;
+use crate::requests::{CLOCK, MeterSession, SECOND, first_fault};
 use crate::setting::Given;
-use dlms_call::act;
 use dlms_data::{Data, Descriptor};
-use dlms_ends::End;
 use dlms_faults::Fault;
 use dlms_printing::{ClockChange, Teller, put_clock, put_line};
 use dlms_words::OutputFormat;
@@ -20,7 +19,7 @@ struct Change {
     before: Option<[u8; 12]>,
 }
 
-impl<'a, S: End> MeterSession<'a, '_, S> {
+impl<'a, C: Calls> MeterSession<'a, '_, C> {
     /// The attribute to be set, and its time before that if it is a clock's.
     fn before_set(&mut self, said: &'a str, class: u16) -> Result<Change, Fault<'a>> {
         let of = self.attribute_said(said, class)?;
@@ -74,7 +73,7 @@ impl<'a, S: End> MeterSession<'a, '_, S> {
         method: Descriptor,
         value: Option<Data<Global>>,
     ) -> Result<(), Fault<'a>> {
-        let answer = act(self.line, &mut self.head, method, value);
+        let answer = self.calls.act(method, value);
         self.judge(said, true, answer)
     }
 
@@ -158,13 +157,8 @@ impl<'a, S: End> MeterSession<'a, '_, S> {
             after,
         };
         let mut teller = Teller::new(self.alloc, self.place, output);
-        match teller.put_success(change.of, change.is_method, returned, shown) {
-            Ok(()) => told,
-            Err(fault) => {
-                drop(told);
-                Err(fault)
-            }
-        }
+        let put = teller.put_success(change.of, change.is_method, returned, shown);
+        first_fault(put, told)
     }
 }
 

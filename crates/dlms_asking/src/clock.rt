@@ -1,11 +1,10 @@
 //! A meter's clock beside the system's, and its correction, as text and as JSON.
 
+use crate::connection::Calls;
 use crate::given::now;
-use crate::requests::{MeterSession, is_answer};
+use crate::requests::{MeterSession, is_done};
 use dlms_buffer::append_clock;
-use dlms_call::act;
 use dlms_data::{Data, LAST_SECOND, octet_string_of, octets};
-use dlms_ends::End;
 use dlms_faults::Fault;
 use dlms_inquiries::{
     Comparison, Correction, SHIFT_TIME, TIME, clock_in, clock_part, is_off, shift_for, time_to_set,
@@ -196,50 +195,46 @@ impl ClockRequest {
     }
 }
 
-impl<'a, S: End> MeterSession<'a, '_, S> {
+impl<'a, C: Calls> MeterSession<'a, '_, C> {
     /// Reads the meter's clock, and the system's at the middle of the exchange.
     fn compare<H: Clock>(&mut self, host: &H) -> Result<Comparison, Fault<'a>> {
         let before = now(host)?;
         self.fetch(NAME, clock_part(TIME))?;
         let after = now(host)?;
         Ok(Comparison {
-            shown: clock_in(self.head.value()),
+            shown: clock_in(self.calls.value()),
             system: before.saturating_add(after.saturating_sub(before) / 2),
         })
     }
 
     /// Shifts the clock by this many seconds. Returns whether the meter did that.
     fn shift_clock(&mut self, seconds: i16) -> Result<bool, Fault<'a>> {
-        let answer = act(
-            self.line,
-            &mut self.head,
-            clock_part(SHIFT_TIME),
-            Some(Data::Long(seconds)),
-        );
-        match self.judge(NAME, true, answer) {
-            Ok(()) => Ok(true),
-            Err(fault) => {
-                if is_answer(&fault) {
-                    drop(fault);
-                    Ok(false)
-                } else {
-                    Err(fault)
-                }
-            }
-        }
+        let shift = Some(Data::Long(seconds));
+        let answer = self.calls.act(clock_part(SHIFT_TIME), shift);
+        let told = self.judge(NAME, true, answer);
+        is_done(told)
     }
 
     /// Corrects the clock: by a shift, or else by the system's time.
     fn correct<H: Clock>(&mut self, host: &H, found: Comparison) -> Result<Correction, Fault<'a>> {
-        if let Some(seconds) = shift_for(found.ahead()) {
-            if self.shift_clock(seconds)? {
-                return Ok(Correction::Shifted);
-            }
+        let is_shifted = match shift_for(found.ahead()) {
+            Some(seconds) => self.shift_clock(seconds)?,
+            None => false,
+        };
+        if is_shifted {
+            return Ok(Correction::Shifted);
         }
-        let time = time_to_set(found.shown, i64::from(now(host)?));
+        match self.set_clock(host, found.shown) {
+            Ok(()) => Ok(Correction::Set),
+            Err(fault) => Err(fault),
+        }
+    }
+
+    /// Sets the clock, which shows this, to the system's time.
+    fn set_clock<H: Clock>(&mut self, host: &H, shown: Option<[u8; 12]>) -> Result<(), Fault<'a>> {
+        let time = time_to_set(shown, i64::from(now(host)?));
         let value = octet_string_of(self.alloc, &time)?;
-        self.set_to(NAME, clock_part(TIME), value)?;
-        Ok(Correction::Set)
+        self.set_to(NAME, clock_part(TIME), value)
     }
 
     /// Compares the clock with the system's, corrects it if that is asked for and it is off, and prints that. If it cannot be read
@@ -255,6 +250,17 @@ impl<'a, S: End> MeterSession<'a, '_, S> {
         if !request.set || !is_off(found.ahead(), request.threshold) {
             return request.put(self.alloc, found, Correction::Nothing, None, output);
         }
+        self.correct_one(host, request, found, output)
+    }
+
+    /// Corrects the clock, and prints that, with the comparison before it and the one after it.
+    fn correct_one<H: Clock, W: Write>(
+        &mut self,
+        host: &H,
+        request: ClockRequest,
+        found: Comparison,
+        output: &mut W,
+    ) -> Result<(), Fault<'a>> {
         let done = self.correct(host, found)?;
         match self.compare(host) {
             Ok(after) => request.put(self.alloc, found, done, Some(after), output),

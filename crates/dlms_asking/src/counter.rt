@@ -1,13 +1,15 @@
 //! The last frame counter that a meter accepted from the client, as it tells every client.
 
-use crate::asking::{line_to, open_association};
+use crate::asking::line_to;
+use crate::connection::{Calls, open_association};
 use crate::requests::{MeterSession, read_name};
 use crate::route::route_of;
 use dlms_call::CallFault;
-use dlms_client::{Fault as TalkFault, Plan};
+use dlms_client::{Fault as TalkFault, Plan, Route};
 use dlms_data::Descriptor;
 use dlms_ends::End;
 use dlms_faults::Fault;
+use dlms_text::Name;
 use dlms_values::{Value, read};
 use dlms_words::MeterOptions;
 use std::alloc::Global;
@@ -37,42 +39,66 @@ fn counter_in(bytes: &[u8]) -> Option<u32> {
     }
 }
 
-impl<'a, S: End> MeterSession<'a, '_, S> {
+impl<'a, C: Calls> MeterSession<'a, '_, C> {
     /// The counter that an object has.
     fn counter(&mut self, name: &'a str, attribute: Descriptor) -> Result<u32, Fault<'a>> {
         self.fetch(name, attribute)?;
-        match counter_in(self.head.value()) {
+        match counter_in(self.calls.value()) {
             Some(counter) => Ok(counter),
             None => Err(Fault::Call(self.place, CallFault::Talk(TalkFault::Form))),
         }
     }
 }
 
-/// The counter, over a line.
-fn counter_over<'a, S: End>(
+/// The counter, by an association, which then ends.
+fn counter_by<'a, C: Calls>(
     alloc: Global,
     place: &'a str,
-    plan: Plan,
     name: &'a str,
     attribute: Descriptor,
-    line: &mut S,
+    calls: &mut C,
 ) -> Result<u32, Fault<'a>> {
-    let head = match open_association(alloc, place, plan, None, line) {
-        Ok(head) => head,
-        Err(fault) => return Err(fault),
-    };
     let mut refused = Vec::new(alloc);
     let mut talk = MeterSession {
         alloc,
         place,
-        line,
-        head,
+        calls,
         most: MOST,
         refused: &mut refused,
     };
     let told = talk.counter(name, attribute);
     talk.end();
     told
+}
+
+/// The counter, over a line.
+fn counter_over<'a, S: End>(
+    alloc: Global,
+    place: &'a str,
+    route: Route,
+    name: &'a str,
+    attribute: Descriptor,
+    line: &mut S,
+) -> Result<u32, Fault<'a>> {
+    let plan = Plan {
+        route,
+        secret: None,
+        size: SIZE,
+    };
+    match open_association(alloc, place, plan, None, line) {
+        Ok(mut connection) => counter_by(alloc, place, name, attribute, &mut connection),
+        Err(fault) => Err(fault),
+    }
+}
+
+/// The attribute that a name of a counter means.
+fn counter_attribute(said: Name) -> Descriptor {
+    let name = said.code;
+    Descriptor {
+        class: DATA,
+        name,
+        id: said.number.unwrap_or(VALUE),
+    }
 }
 
 /// The last counter that the meter accepted from the client, by an object of class Data that the public client may read. Nothing
@@ -83,21 +109,10 @@ pub fn last_counter<'a, H: Net + Files<File = File> + Clock + AllocGlobal>(
     meter: &MeterOptions<'a>,
     name: &'a str,
 ) -> Result<u32, Fault<'a>> {
-    let said = read_name(name)?;
-    let code = said.code;
-    let attribute = Descriptor {
-        class: DATA,
-        name: code,
-        id: said.number.unwrap_or(VALUE),
-    };
+    let attribute = counter_attribute(read_name(name)?);
     let (route, address) = route_of(meter, PUBLIC)?;
-    let plan = Plan {
-        route,
-        secret: None,
-        size: SIZE,
-    };
     let mut line = line_to(host, meter, address)?;
-    let told = counter_over(host.alloc(), meter.place, plan, name, attribute, &mut line);
+    let told = counter_over(host.alloc(), meter.place, route, name, attribute, &mut line);
     drop(line);
     told
 }

@@ -1,6 +1,6 @@
 //! The guards of a protected poll, by the file of settings.
 
-use crate::asking::is_silence;
+use crate::asking::is_unanswered;
 use crate::counter::last_counter;
 use dlms_ends::RunFault;
 use dlms_faults::Fault;
@@ -121,18 +121,18 @@ fn last_for_poll<'a, H: Net + Files<File = File> + Clock + AllocGlobal>(
     if let Err(error) = inputs.start() {
         return Err(Fault::of_system(host.alloc(), place, &error));
     }
-    let mut told = last_counter(host, &options.meter, name);
     'calls: for _call in 0..options.meter.retries.unwrap_or(MOST_RETRIES) {
-        match told {
-            Err(fault) if is_silence(place, &fault) => drop(fault),
-            told => return read_in_time(place, told, seconds, passed(inputs.seconds())),
+        let told = last_counter(host, &options.meter, name);
+        if !is_unanswered(place, &told) {
+            return read_in_time(place, told, seconds, passed(inputs.seconds()));
         }
+        drop(told);
         inputs.pause();
         if passed(inputs.seconds()) >= seconds {
             return Err(Fault::Overdue(place, seconds));
         }
-        told = last_counter(host, &options.meter, name);
     }
+    let told = last_counter(host, &options.meter, name);
     read_in_time(place, told, seconds, passed(inputs.seconds()))
 }
 

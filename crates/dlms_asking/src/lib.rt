@@ -4,6 +4,7 @@
 mod asking;
 mod changes;
 mod clock;
+mod connection;
 mod counter;
 mod explained_messages;
 mod explained_stream;

@@ -1,8 +1,8 @@
 //! The values of a whole object list, read one after another.
 
+use crate::connection::Calls;
 use crate::requests::{MeterSession, SECOND, is_answer};
 use dlms_data::Descriptor;
-use dlms_ends::End;
 use dlms_faults::Fault;
 use dlms_inquiries::scaler_of;
 use dlms_names::access_result;
@@ -64,7 +64,17 @@ fn append_lines(text: &mut Vec<u8>, lines: &[u8]) -> Result<(), AllocError> {
     Ok(())
 }
 
-impl<'a, S: End> MeterSession<'a, '_, S> {
+/// Appends a printed value: as JSON as it is, as text in lines.
+fn append_printed<'a>(text: &mut Vec<u8>, printed: &[u8], form: ListForm) -> Result<(), Fault<'a>> {
+    if form.is_json() {
+        text.extend_from_slice(printed)?;
+    } else {
+        append_lines(text, printed)?;
+    }
+    Ok(())
+}
+
+impl<'a, C: Calls> MeterSession<'a, '_, C> {
     /// Appends the value that came last, with its scaler and unit if it has them.
     fn append_last(
         &mut self,
@@ -78,35 +88,57 @@ impl<'a, S: End> MeterSession<'a, '_, S> {
             None => None,
         };
         let mut printed = Vec::new(self.alloc);
-        let mut teller = Teller::new(self.alloc, self.place, &mut printed);
+        let put = self.put_in_list(attribute, value.as_slice(), scaled, form, &mut printed);
+        let told = match put {
+            Ok(()) => append_printed(text, printed.as_slice(), form),
+            Err(fault) => Err(fault),
+        };
+        drop(printed);
+        drop(value);
+        told
+    }
+
+    /// Prints a value of the object list.
+    fn put_in_list(
+        &self,
+        attribute: Descriptor,
+        value: &[u8],
+        scaled: Option<(i8, u8)>,
+        form: ListForm,
+        printed: &mut Vec<u8>,
+    ) -> Result<(), Fault<'a>> {
+        let mut teller = Teller::new(self.alloc, self.place, printed);
         if form.is_json() {
-            teller.put_value_json(attribute, value.as_slice(), scaled)?;
+            teller.put_value_json(attribute, value, scaled)
         } else {
-            teller.put_value(attribute, value.as_slice(), ValueFormat::Text, scaled)?;
+            teller.put_value(attribute, value, ValueFormat::Text, scaled)
         }
-        drop(teller);
-        if form.is_json() {
-            text.extend_from_slice(printed.as_slice())?;
-        } else {
-            append_lines(text, printed.as_slice())?;
-        }
-        Ok(())
     }
 
     /// Prints the object list in a form.
     #[inline(never)]
     pub fn list_all<W: Write>(&mut self, form: ListForm, output: &mut W) -> Result<(), Fault<'a>> {
         self.fetch_list()?;
-        let mut teller = Teller::new(self.alloc, self.place, output);
-        if !form.has_values() {
-            return teller.put_objects(self.head.value(), form, &mut NoValues);
+        if form.has_values() {
+            return self.put_list_with_values(form, output);
         }
+        let mut teller = Teller::new(self.alloc, self.place, output);
+        teller.put_objects(self.calls.value(), form, &mut NoValues)
+    }
+
+    /// Prints the object list, which came last, with its values.
+    fn put_list_with_values<W: Write>(
+        &mut self,
+        form: ListForm,
+        output: &mut W,
+    ) -> Result<(), Fault<'a>> {
         let list = self.copy_value()?;
+        let mut teller = Teller::new(self.alloc, self.place, output);
         teller.put_objects(list.as_slice(), form, self)
     }
 }
 
-impl<'a, S: End> Values<'a> for MeterSession<'a, '_, S> {
+impl<'a, C: Calls> Values<'a> for MeterSession<'a, '_, C> {
     fn append_value(
         &mut self,
         text: &mut Vec<u8>,

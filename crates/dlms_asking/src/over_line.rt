@@ -72,7 +72,7 @@ impl<L: Failing, P> Failing for WatchedLine<'_, L, P> {
 }
 
 /// Asks a meter over the line to it. What passes is explained on `explained` if that is asked for.
-pub fn ask_over<
+fn ask_over<
     'a,
     H: Clock + AllocGlobal,
     L: Read + Write + Failing + Drop,
@@ -114,7 +114,7 @@ impl Attempt<'_, '_> {
     }
 
     /// Whether the progress of the request is that of its octets.
-    pub fn counts_octets(&self) -> bool {
+    fn counts_octets(&self) -> bool {
         matches!(&*self.waiting, Some(Request::List { .. }))
     }
 }
@@ -145,7 +145,7 @@ fn ask_counted<
 }
 
 /// Asks a meter over the line to it, and shows on standard error how many octets have come.
-pub fn ask_with_octets<
+fn ask_with_octets<
     'a,
     H: Clock + AllocGlobal,
     L: Read + Write + Failing + Drop,
@@ -169,7 +169,7 @@ pub fn ask_with_octets<
 }
 
 /// Asks a meter over the line to it, and shows the progress on standard error.
-pub fn ask_with_progress<
+fn ask_with_progress<
     'a,
     H: Clock + AllocGlobal,
     L: Read + Write + Failing + Drop,
@@ -186,4 +186,22 @@ pub fn ask_with_progress<
     let told = ask_over(host, attempt, line, output, &mut io::sink(), &mut progress);
     drop(progress);
     told
+}
+
+/// Asks a meter over the line to it. The octets that pass are explained on standard error if that is asked for; otherwise the progress
+/// is shown there.
+pub fn ask_on<'a, H: Clock + AllocGlobal, L: Read + Write + Failing + Drop, W: Write, E: Write>(
+    host: &H,
+    attempt: Attempt<'_, 'a>,
+    line: L,
+    output: &mut W,
+    errors: &mut E,
+) -> Result<(), Fault<'a>> {
+    if attempt.asking.verbose {
+        ask_over(host, attempt, line, output, errors, &mut Unfollowed)
+    } else if attempt.counts_octets() {
+        ask_with_octets(host, attempt, line, output, errors)
+    } else {
+        ask_with_progress(host, attempt, line, output, errors)
+    }
 }

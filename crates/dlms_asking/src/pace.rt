@@ -1,13 +1,14 @@
 //! How often a meter captures rows, and when it captured the first one that it still has.
 
-use crate::asking::{FEW_COUNTERS, SIZE, is_silence, line_to, open_association};
-use crate::counter::last_counter;
+use crate::asking::{FEW_COUNTERS, SIZE, is_unanswered, line_to};
+use crate::connection::{Calls, open_association};
 use crate::profile::{BUFFER, LOAD_PROFILE, PROFILE};
 use crate::requests::{MeterSession, read_name};
 use crate::route::{PollLine, poll_line, poll_secret};
-use crate::security::{heed_counter, keep_counter, parted, protection_for};
+use crate::security::{heed_counter, keep_counter, parted, protection_with};
+use arrayvec::ArrayVec;
 use dlms_buffer::by_entries;
-use dlms_call::get_part;
+use dlms_call::Unwatched;
 use dlms_client::{Plan, Route};
 use dlms_data::{Descriptor, secs};
 use dlms_ends::End;
@@ -15,9 +16,10 @@ use dlms_faults::Fault;
 use dlms_frame::Address;
 use dlms_guards::Protection;
 use dlms_inquiries::twelve;
+use dlms_keys::StoredCounters;
 use dlms_polling::{HostPollInputs, PollInputs, secret_of};
 use dlms_values::{Value, read};
-use dlms_words::PollOptions;
+use dlms_words::{MeterOptions, PollOptions};
 use std::alloc::Global;
 use std::fs::File;
 use std::net::Net;
@@ -56,30 +58,55 @@ fn first_clock(bytes: &[u8]) -> Option<u32> {
     }
 }
 
-impl<'a, S: End> MeterSession<'a, '_, S> {
+impl<'a, C: Calls> MeterSession<'a, '_, C> {
     /// The pace of the load profile; with the clock of its first row if that is wanted.
     fn pace(&mut self, wants_first: bool) -> Result<Pace, Fault<'a>> {
         let name = read_name(LOAD_PROFILE)?.code;
         let period = self.period(LOAD_PROFILE, name)?;
-        if !wants_first {
-            return Ok(Pace {
-                period,
-                first: None,
-            });
-        }
+        let first = if wants_first {
+            self.first_row(name)?
+        } else {
+            None
+        };
+        Ok(Pace { period, first })
+    }
+
+    /// The clock of the first row of the load profile, which has this name, if there is one.
+    fn first_row(&mut self, name: [u8; 6]) -> Result<Option<u32>, Fault<'a>> {
         let buffer = Descriptor {
             class: PROFILE,
             name,
             id: BUFFER,
         };
         let part = by_entries(self.alloc, OLDEST, OLDEST)?;
-        let answer = get_part(self.line, &mut self.head, buffer, part, self.most as usize);
+        let most = self.most as usize;
+        let answer = self.calls.get_part(buffer, part, most, &mut Unwatched);
         self.judge(LOAD_PROFILE, false, answer)?;
-        Ok(Pace {
-            period,
-            first: first_clock(self.head.value()),
-        })
+        Ok(first_clock(self.calls.value()))
     }
+}
+
+/// The pace, by an association, which then ends.
+fn pace_by<'a, C: Calls>(
+    alloc: Global,
+    meter: &MeterOptions<'a>,
+    counters: &mut Option<Box<StoredCounters>>,
+    calls: &mut C,
+    wants_first: bool,
+) -> Result<Pace, Fault<'a>> {
+    heed_counter(alloc, meter, counters, calls)?;
+    let mut refused = Vec::new(alloc);
+    let mut talk = MeterSession {
+        alloc,
+        place: meter.place,
+        calls,
+        most: MOST,
+        refused: &mut refused,
+    };
+    let pace = talk.pace(wants_first);
+    talk.end();
+    keep_counter(meter, counters, talk.calls)?;
+    pace
 }
 
 /// The pace, over a line.
@@ -91,69 +118,49 @@ fn pace_over<'a, S: End>(
     line: &mut S,
     wants_first: bool,
 ) -> Result<Pace, Fault<'a>> {
-    let place = options.meter.place;
+    let meter = &options.meter;
     let (guard, mut counters) = parted(protection);
-    let head = match open_association(alloc, place, plan, guard, line) {
-        Ok(head) => head,
-        Err(fault) => return Err(fault),
-    };
-    heed_counter(alloc, &options.meter, &mut counters, &head)?;
-    let mut refused = Vec::new(alloc);
-    let mut talk = MeterSession {
-        alloc,
-        place,
-        line,
-        head,
-        most: MOST,
-        refused: &mut refused,
-    };
-    let pace = talk.pace(wants_first);
-    talk.end();
-    keep_counter(&options.meter, &mut counters, &talk.head)?;
-    pace
+    match open_association(alloc, meter.place, plan, guard, line) {
+        Ok(mut connection) => pace_by(alloc, meter, &mut counters, &mut connection, wants_first),
+        Err(fault) => Err(fault),
+    }
 }
 
-/// The association of a poll, as a client asks for it: its route and its secret, and the address of its line.
+/// The secret of a poll over this line, if it sends one.
+fn secret<'a, H: Files + Clock + AllocGlobal>(
+    host: &H,
+    options: &PollOptions<'a>,
+    line: PollLine<'a>,
+) -> Result<Option<ArrayVec<u8, 16>>, Fault<'a>> {
+    let PollLine { address, route } = line;
+    let file = poll_secret(options, route);
+    if options.meter.security.is_some() || (route.is_some() && file.is_none()) {
+        return Ok(None);
+    }
+    let mut inputs = HostPollInputs::new(host);
+    match secret_of(&mut inputs, options.client, file) {
+        Ok(found) if options.client.has_secret() => Ok(Some(found)),
+        Ok(_) => Ok(None),
+        Err(fault) => Err(Fault::of_field(host.alloc(), address, options.readings, file, fault)),
+    }
+}
+
+/// The association of a poll over this line, as a client asks for it: its route and its secret.
 fn plan_of<'a, H: Files + Clock + AllocGlobal>(
     host: &H,
     options: &PollOptions<'a>,
-) -> Result<(Plan, &'a str), Fault<'a>> {
-    let PollLine { address, route } = poll_line(options)?;
-    let file = poll_secret(options, route);
-    let wants_secret = options.meter.security.is_none() && (route.is_none() || file.is_some());
-    let mut secret = None;
-    if wants_secret {
-        let mut inputs = HostPollInputs::new(host);
-        match secret_of(&mut inputs, options.client, file) {
-            Ok(found) if options.client.has_secret() => secret = Some(found),
-            Ok(_) => {}
-            Err(fault) => {
-                return Err(Fault::of_field(host.alloc(), address, options.readings, file, fault));
-            }
-        }
-    }
-    let route = route.unwrap_or(Route::Hdlc(options.client.sap(), Address::One(1), None));
-    let plan = Plan {
+    line: PollLine<'a>,
+) -> Result<Plan, Fault<'a>> {
+    let secret = secret(host, options, line)?;
+    let client = options.client.sap();
+    let route = line
+        .route
+        .unwrap_or(Route::Hdlc(client, Address::One(1), None));
+    Ok(Plan {
         route,
         secret,
         size: SIZE,
-    };
-    Ok((plan, address))
-}
-
-/// What protects the association, if the poll is protected.
-fn protection<'a, H: Net + Files<File = File> + Clock + AllocGlobal + RandomSource>(
-    host: &H,
-    options: &PollOptions<'a>,
-) -> Result<Option<Protection>, Fault<'a>> {
-    if options.meter.security.is_none() {
-        return Ok(None);
-    }
-    let last = match options.meter.counter_from {
-        Some(name) => Some(last_counter(host, &options.meter, name)?),
-        None => None,
-    };
-    Ok(Some(protection_for(host, &options.meter, last, FEW_COUNTERS)?))
+    })
 }
 
 /// Asks once.
@@ -162,9 +169,10 @@ fn ask_once<'a, H: Net + Files<File = File> + Clock + AllocGlobal + RandomSource
     options: &PollOptions<'a>,
     wants_first: bool,
 ) -> Result<Pace, Fault<'a>> {
-    let (plan, address) = plan_of(host, options)?;
-    let protection = protection(host, options)?;
-    let mut line = match line_to(host, &options.meter, address) {
+    let line = poll_line(options)?;
+    let plan = plan_of(host, options, line)?;
+    let protection = protection_with(host, &options.meter, FEW_COUNTERS)?;
+    let mut line = match line_to(host, &options.meter, line.address) {
         Ok(line) => line,
         Err(fault) => {
             drop(protection);
@@ -185,15 +193,14 @@ pub fn ask_for_pace<'a, H: Net + Files<File = File> + Clock + AllocGlobal + Rand
     options: &PollOptions<'a>,
     wants_first: bool,
 ) -> Result<Pace, Fault<'a>> {
-    let mut pace = ask_once(host, options, wants_first);
     'calls: for _call in 0..options.meter.retries.unwrap_or(0) {
-        match pace {
-            Err(fault) if is_silence(options.meter.place, &fault) => drop(fault),
-            pace => return pace,
+        let pace = ask_once(host, options, wants_first);
+        if !is_unanswered(options.meter.place, &pace) {
+            return pace;
         }
+        drop(pace);
         let mut inputs = HostPollInputs::new(host);
         inputs.pause();
-        pace = ask_once(host, options, wants_first);
     }
-    pace
+    ask_once(host, options, wants_first)
 }

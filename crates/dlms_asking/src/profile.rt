@@ -1,10 +1,10 @@
 //! Rows of a profile: the requests for its columns and its buffer.
 
-use crate::requests::{MeterSession, is_answer, read_name};
+use crate::connection::Calls;
+use crate::requests::{MeterSession, first_fault, is_answer, read_name};
 use dlms_buffer::{BufferFault, Column, by_entries, by_range, column_of, first_of_last};
-use dlms_call::{CallFault, Watch, get_part_watched, get_watched};
+use dlms_call::{CallFault, Watch};
 use dlms_data::{Descriptor, LAST_SECOND, Selector, octets, secs};
-use dlms_ends::End;
 use dlms_faults::Fault;
 use dlms_inquiries::scaler_of;
 use dlms_printing::{ColumnShape, Following, RowPrinter, Showing, Table};
@@ -196,7 +196,20 @@ fn clock_among(shapes: &[ColumnShape]) -> Option<Column> {
     None
 }
 
-impl<'a, S: End> MeterSession<'a, '_, S> {
+/// The part of a buffer whose rows are in a range of times, if it has a clock.
+fn part_in<'a>(
+    alloc: Global,
+    name: &'a str,
+    range: &TimeRange,
+    clock: Option<Column>,
+) -> Result<Option<Selector<Global>>, Fault<'a>> {
+    let Some(clock) = clock else {
+        return Err(Fault::NoClock(name));
+    };
+    Ok(Some(by_range(alloc, &clock, &range.from, &range.to)?))
+}
+
+impl<'a, C: Calls> MeterSession<'a, '_, C> {
     /// The columns of a profile.
     fn columns(
         &mut self,
@@ -209,7 +222,7 @@ impl<'a, S: End> MeterSession<'a, '_, S> {
             id: CAPTURE_OBJECTS,
         };
         self.fetch(request.name, attribute)?;
-        match columns_in(self.alloc, self.head.value()) {
+        match columns_in(self.alloc, self.calls.value()) {
             Ok(shapes) => Ok(shapes),
             Err(fault) => Err(Fault::of_buffer(request.name, fault)),
         }
@@ -235,7 +248,7 @@ impl<'a, S: End> MeterSession<'a, '_, S> {
             id,
         };
         self.fetch(name, attribute)?;
-        match read(self.head.value()) {
+        match read(self.calls.value()) {
             Ok((Value::Unsigned(_, number), _)) => Ok(u32::try_from(number).unwrap_or(u32::MAX)),
             _ => Err(Fault::of_call(self.place, CallFault::Talk(dlms_client::Fault::Form))),
         }
@@ -263,19 +276,22 @@ impl<'a, S: End> MeterSession<'a, '_, S> {
         code: [u8; 6],
         clock: Option<Column>,
     ) -> Result<Option<Selector<Global>>, Fault<'a>> {
-        if let Some(range) = request.range {
-            let Some(clock) = clock else {
-                return Err(Fault::NoClock(request.name));
-            };
-            return Ok(Some(by_range(self.alloc, &clock, &range.from, &range.to)?));
+        match (request.range, request.last) {
+            (Some(range), _) => part_in(self.alloc, request.name, &range, clock),
+            (None, Some(count)) => self.last_part(request.name, code, count),
+            (None, None) => Ok(None),
         }
-        match request.last {
-            Some(count) => {
-                let in_use = self.number_of(request.name, code, ENTRIES_IN_USE)?;
-                Ok(Some(by_entries(self.alloc, first_of_last(in_use, count), LAST_ENTRY)?))
-            }
-            None => Ok(None),
-        }
+    }
+
+    /// The last entries of the buffer, this many.
+    fn last_part(
+        &mut self,
+        name: &'a str,
+        code: [u8; 6],
+        count: u32,
+    ) -> Result<Option<Selector<Global>>, Fault<'a>> {
+        let in_use = self.number_of(name, code, ENTRIES_IN_USE)?;
+        Ok(Some(by_entries(self.alloc, first_of_last(in_use, count), LAST_ENTRY)?))
     }
 
     /// Asks for the rows, and shows what has come of them. The buffer's encoding is the client's value then.
@@ -293,10 +309,8 @@ impl<'a, S: End> MeterSession<'a, '_, S> {
         };
         let most = self.most as usize;
         let answer = match part {
-            None => get_watched(self.line, &mut self.head, attribute, most, watch),
-            Some(part) => {
-                get_part_watched(self.line, &mut self.head, attribute, part, most, watch)
-            }
+            None => self.calls.get(attribute, most, watch),
+            Some(part) => self.calls.get_part(attribute, part, most, watch),
         };
         self.judge(request.name, false, answer)
     }
@@ -314,7 +328,7 @@ impl<'a, S: End> MeterSession<'a, '_, S> {
             self.scale(request.name, shapes);
         }
         let period = self.period(request.name, code)?;
-        let part = self.part(request, code, clock_among(shapes))?;
+        let clock = clock_among(shapes);
         let table = Table {
             code,
             shapes,
@@ -322,7 +336,10 @@ impl<'a, S: End> MeterSession<'a, '_, S> {
             raw: request.raw,
             last: request.last,
         };
-        self.print_rows(request, code, part, table, output, progress)
+        match self.part(request, code, clock) {
+            Ok(part) => self.print_rows(request, code, part, table, output, progress),
+            Err(fault) => Err(fault),
+        }
     }
 
     /// Asks for the rows, and prints them while they come. A fault of theirs came before one of the line.
@@ -350,15 +367,9 @@ impl<'a, S: End> MeterSession<'a, '_, S> {
             }
         };
         let fetched = self.fetch_rows(request, code, part, &mut printer);
-        let printed = printer.finish(self.head.value(), fetched.is_ok());
+        let printed = printer.finish(self.calls.value(), fetched.is_ok());
         drop(printer);
-        match printed {
-            Ok(()) => fetched,
-            Err(fault) => {
-                drop(fetched);
-                Err(fault)
-            }
-        }
+        first_fault(printed, fetched)
     }
 
     /// Prints rows of a profile.

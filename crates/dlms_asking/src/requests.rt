@@ -3,10 +3,10 @@
 ghost use Rattle.std.specs.Prelude.{◌≤◌};
 ghost use Rattle.dlms_data.specs.declared.date_time.TheConstants.{LAST_SECOND};
 
-use dlms_call::{CallFault, ClientEnd, end, get, set};
+use crate::connection::Calls;
+use dlms_call::{CallFault, Unwatched};
 use dlms_client::Answer;
 use dlms_data::{Data, Descriptor};
-use dlms_ends::End;
 use dlms_faults::Fault;
 use dlms_inquiries::{class_by_name, class_named, clock_in, object_list, scale_of, scaler_of};
 use dlms_printing::Teller;
@@ -28,13 +28,12 @@ struct Printing {
     is_named: bool,
 }
 
-/// A talk with a meter: its place, its line, the client, how many octets a value may have, and the faults of single names.
+/// A talk with a meter: its place, the calls by its association, how many octets a value may have, and the faults of single names.
 #[derive(Drop)]
-pub struct MeterSession<'a, 's, S: End> {
+pub struct MeterSession<'a, 's, C: Calls> {
     pub alloc: Global,
     pub place: &'a str,
-    pub line: &'s mut S,
-    pub head: Box<ClientEnd<Global>>,
+    pub calls: &'s mut C,
     pub most: u32,
     pub refused: &'s mut Vec<Fault<'a>>,
 }
@@ -44,6 +43,14 @@ pub fn read_name(text: &str) -> Result<Name, Fault<'_>> {
     match written_name(text) {
         Some(name) => Ok(name),
         None => Err(Fault::Name(text)),
+    }
+}
+
+/// The name of a method that a text writes, with its number.
+pub fn read_method(text: &str) -> Result<Name, Fault<'_>> {
+    match written_name(text) {
+        Some(name) if name.number.is_some() => Ok(name),
+        _ => Err(Fault::Name(text)),
     }
 }
 
@@ -68,7 +75,36 @@ pub fn is_answer(fault: &Fault<'_>) -> bool {
     matches!(fault, Fault::Result(..) | Fault::Denied(..))
 }
 
-impl<'a, S: End> MeterSession<'a, '_, S> {
+/// Whether a request was carried out; not if the meter refused it, after which the association goes on.
+pub fn is_done<'a>(told: Result<(), Fault<'a>>) -> Result<bool, Fault<'a>> {
+    match told {
+        Ok(()) => Ok(true),
+        Err(fault) => {
+            if is_answer(&fault) {
+                drop(fault);
+                Ok(false)
+            } else {
+                Err(fault)
+            }
+        }
+    }
+}
+
+/// The first fault of two results.
+pub fn first_fault<'a>(
+    first: Result<(), Fault<'a>>,
+    second: Result<(), Fault<'a>>,
+) -> Result<(), Fault<'a>> {
+    match first {
+        Ok(()) => second,
+        Err(fault) => {
+            drop(second);
+            Err(fault)
+        }
+    }
+}
+
+impl<'a, C: Calls> MeterSession<'a, '_, C> {
     /// The result that an answer reports for the object of this name: nothing more for a success.
     pub fn judge(
         &self,
@@ -87,13 +123,14 @@ impl<'a, S: End> MeterSession<'a, '_, S> {
 
     /// Asks for an attribute. Its encoding is the client's value then.
     pub fn fetch(&mut self, name: &'a str, attribute: Descriptor) -> Result<(), Fault<'a>> {
-        let answer = get(self.line, &mut self.head, attribute, self.most as usize);
+        let most = self.most as usize;
+        let answer = self.calls.get(attribute, most, &mut Unwatched);
         self.judge(name, false, answer)
     }
 
     /// A copy of the encoding that came last.
     pub fn copy_value(&self) -> Result<Vec<u8>, Fault<'a>> {
-        Ok(Vec::from_slice(self.alloc, self.head.value())?)
+        Ok(Vec::from_slice(self.alloc, self.calls.value())?)
     }
 
     /// Asks for the object list.
@@ -106,9 +143,9 @@ impl<'a, S: End> MeterSession<'a, '_, S> {
         if list.is_some() {
             return Ok(());
         }
-        *list = Some(Vec::new(self.alloc));
+        let octets = list.insert(Vec::new(self.alloc));
         self.fetch_list()?;
-        *list = Some(self.copy_value()?);
+        octets.extend_from_slice(self.calls.value())?;
         Ok(())
     }
 
@@ -151,7 +188,7 @@ impl<'a, S: End> MeterSession<'a, '_, S> {
     /// The scaler and the unit of a register's value, if it has them.
     pub fn scaler_unit(&mut self, said: &'a str, scaler: Descriptor) -> Option<(i8, u8)> {
         match self.fetch(said, scaler) {
-            Ok(()) => scale_of(self.head.value()),
+            Ok(()) => scale_of(self.calls.value()),
             Err(fault) => {
                 drop(fault);
                 None
@@ -206,6 +243,18 @@ impl<'a, S: End> MeterSession<'a, '_, S> {
         teller.put_value(attribute, value, printing.format, scaled)
     }
 
+    /// Prints the value that came last, without a scaler.
+    fn put_last<W: Write>(
+        &self,
+        said: &str,
+        attribute: Descriptor,
+        printing: Printing,
+        output: &mut W,
+    ) -> Result<(), Fault<'a>> {
+        let value = self.calls.value();
+        self.put(said, attribute, value, None, printing, output)
+    }
+
     /// Prints the value of a register that came last, with its scaler and its unit.
     fn put_scaled<W: Write>(
         &mut self,
@@ -237,19 +286,20 @@ impl<'a, S: End> MeterSession<'a, '_, S> {
             Some(scaler) if printing.format != ValueFormat::Encoding => {
                 self.put_scaled(said, attribute, scaler, printing, output)
             }
-            _ => self.put(said, attribute, self.head.value(), None, printing, output),
+            _ => self.put_last(said, attribute, printing, output),
         }
     }
 
     /// Keeps the fault of one name, so that the others are asked for all the same. Any other fault is returned.
     fn keep(&mut self, told: Result<(), Fault<'a>>) -> Result<(), Fault<'a>> {
-        match told {
-            Err(fault) if is_of_name(&fault) => {
-                self.refused.push(fault)?;
-                Ok(())
-            }
-            told => told,
+        let Err(fault) = told else {
+            return Ok(());
+        };
+        if !is_of_name(&fault) {
+            return Err(fault);
         }
+        self.refused.push(fault)?;
+        Ok(())
     }
 
     /// Prints the values of attributes, with an object list that is read when it is first needed.
@@ -306,10 +356,7 @@ impl<'a, S: End> MeterSession<'a, '_, S> {
 
     /// The method that a text names.
     pub fn method_said(&mut self, said: &'a str, class: u16) -> Result<Descriptor, Fault<'a>> {
-        let name = read_name(said)?;
-        if name.number.is_none() {
-            return Err(Fault::Name(said));
-        }
+        let name = read_method(said)?;
         self.attribute_of(said, name, class)
     }
 
@@ -322,16 +369,11 @@ impl<'a, S: End> MeterSession<'a, '_, S> {
         let Some(clock) = clock else {
             return Ok(None);
         };
-        match self.fetch(said, clock) {
-            Ok(()) => Ok(clock_in(self.head.value())),
-            Err(fault) => {
-                if is_answer(&fault) {
-                    drop(fault);
-                    Ok(None)
-                } else {
-                    Err(fault)
-                }
-            }
+        let told = self.fetch(said, clock);
+        if is_done(told)? {
+            Ok(clock_in(self.calls.value()))
+        } else {
+            Ok(None)
         }
     }
 
@@ -342,12 +384,12 @@ impl<'a, S: End> MeterSession<'a, '_, S> {
         attribute: Descriptor,
         value: Data<Global>,
     ) -> Result<(), Fault<'a>> {
-        let answer = set(self.line, &mut self.head, attribute, value);
+        let answer = self.calls.set(attribute, value);
         self.judge(said, false, answer)
     }
 
     /// Ends the association, and the link.
     pub fn end(&mut self) {
-        let _ended = end(self.line, &mut self.head);
+        self.calls.end();
     }
 }

@@ -7,7 +7,7 @@ use dlms_client::Route;
 use dlms_faults::Fault;
 use dlms_frame::{Address, Client};
 use dlms_text::server_of;
-use dlms_words::{MeterOptions, PollOptions, split_place};
+use dlms_words::{MeterOptions, Place, PollOptions, split_place};
 
 /// The address, or the wrapper port, of a meter's management logical device (IEC 62056-46 and -47, reserved addresses).
 const SERVER: u8 = 1;
@@ -19,24 +19,31 @@ enum Carrier {
     Wrapper,
 }
 
-/// The carrier to a place, and the address or the device of the line. The place may name its carrier, as `wrapper://HOST:PORT`;
+/// The carrier to a place, if the line can have it and the options allow it. The place may name it, as `wrapper://HOST:PORT`;
 /// otherwise an option does.
-fn line_of<'a>(meter: &MeterOptions<'a>) -> Result<(Carrier, &'a str), Fault<'a>> {
-    let place = split_place(meter.place);
-    let line = place.line;
+fn carrier_to(meter: &MeterOptions<'_>, place: &Place<'_>) -> Option<Carrier> {
     let carrier = match place.carrier {
         Some(carrier) => carrier,
         None if meter.wrapper => "wrapper",
         None => "hdlc",
     };
-    let is_device = line.starts_with('/');
+    let is_device = place.line.starts_with('/');
     let needs_frames = meter.wide || meter.information.is_some();
     if carrier == "wrapper" && !is_device && !needs_frames {
-        Ok((Carrier::Wrapper, line))
+        Some(Carrier::Wrapper)
     } else if (carrier == "hdlc" || carrier == "serial" && is_device) && !meter.wrapper {
-        Ok((Carrier::Hdlc, line))
+        Some(Carrier::Hdlc)
     } else {
-        Err(Fault::Place(meter.place))
+        None
+    }
+}
+
+/// The carrier to a place, and the address or the device of the line.
+fn line_of<'a>(meter: &MeterOptions<'a>) -> Result<(Carrier, &'a str), Fault<'a>> {
+    let place = split_place(meter.place);
+    match carrier_to(meter, &place) {
+        Some(carrier) => Ok((carrier, place.line)),
+        None => Err(Fault::Place(meter.place)),
     }
 }
 
@@ -86,7 +93,10 @@ fn route_by<'a>(
 /// The route from the client with this address to the meter, and the address or the device of the line.
 pub fn route_of<'a>(meter: &MeterOptions<'a>, client: u32) -> Result<(Route, &'a str), Fault<'a>> {
     let (carrier, line) = line_of(meter)?;
-    Ok((route_by(meter, carrier, client)?, line))
+    match route_by(meter, carrier, client) {
+        Ok(route) => Ok((route, line)),
+        Err(fault) => Err(fault),
+    }
 }
 
 /// The line of a poll: its address or its device, and the route over it.
@@ -108,26 +118,46 @@ fn lawful<'a>(route: Route, place: &'a str) -> Result<Route, Fault<'a>>
     }
 }
 
+/// Whether a poll by this carrier goes by a route. A protected one does in each case.
+fn is_routed(options: &PollOptions<'_>, carrier: Carrier) -> bool {
+    let meter = &options.meter;
+    let is_addressed = options.sap.is_some() || meter.server.is_some() || meter.wide;
+    is_addressed
+        || meter.security.is_some()
+        || meter.information.is_some()
+        || carrier == Carrier::Wrapper
+}
+
+/// The route of a poll by this carrier, if its addresses are in their ranges.
+fn poll_route<'a>(options: &PollOptions<'a>, carrier: Carrier) -> Result<Route, Fault<'a>>
+    ensures { IfOk result IsRoute }
+{
+    let meter = &options.meter;
+    let client = options.sap.unwrap_or(u32::from(options.client.sap()));
+    match route_by(meter, carrier, client) {
+        Ok(route) => lawful(route, meter.place),
+        Err(fault) => Err(fault),
+    }
+}
+
 /// The line of a poll. A protected poll goes by a route in each case.
 pub fn poll_line<'a>(options: &PollOptions<'a>) -> Result<PollLine<'a>, Fault<'a>>
     ensures { IfOk result (λ line. IfSome line.route IsRoute) }
 {
-    let meter = &options.meter;
-    let (carrier, address) = line_of(meter)?;
-    let is_addressed = options.sap.is_some() || meter.server.is_some() || meter.wide;
-    let is_routed = is_addressed || meter.security.is_some();
-    if carrier == Carrier::Hdlc && !is_routed && meter.information.is_none() {
+    let (carrier, address) = line_of(&options.meter)?;
+    if !is_routed(options, carrier) {
         return Ok(PollLine {
             address,
             route: None,
         });
     }
-    let client = options.sap.unwrap_or(u32::from(options.client.sap()));
-    let route = lawful(route_by(meter, carrier, client)?, meter.place)?;
-    Ok(PollLine {
-        address,
-        route: Some(route),
-    })
+    match poll_route(options, carrier) {
+        Ok(route) => Ok(PollLine {
+            address,
+            route: Some(route),
+        }),
+        Err(fault) => Err(fault),
+    }
 }
 
 /// The file of the secret that a poll sends. Over a route the public client sends none.

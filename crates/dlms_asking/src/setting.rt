@@ -1,9 +1,9 @@
 //! Values for SET: with their type, or in the type that the attribute has.
 
+use crate::connection::Calls;
 use crate::given::value_given;
-use crate::requests::{CLOCK, MeterSession, SECOND, is_answer};
+use crate::requests::{CLOCK, MeterSession, SECOND, is_done};
 use dlms_data::{Data, Descriptor, octet_string_of};
-use dlms_ends::End;
 use dlms_faults::Fault;
 use dlms_text::{Kind, ValueFault, date_time_in, kind_of_tag, value_as};
 use std::alloc::Global;
@@ -85,7 +85,7 @@ fn value_like<'a>(
     }
 }
 
-impl<'a, S: End> MeterSession<'a, '_, S> {
+impl<'a, C: Calls> MeterSession<'a, '_, C> {
     /// The value that a text writes in the type of an attribute: a clock's time as a date-time, any other in the type of the value that
     /// the attribute has, which is read.
     fn value_in_type(
@@ -100,16 +100,11 @@ impl<'a, S: End> MeterSession<'a, '_, S> {
                 None => Err(Fault::Unfit(text, "a time as 2026-01-31T12:00:00Z, or now,")),
             };
         }
-        match self.fetch(said, attribute) {
-            Ok(()) => value_like(self.alloc, said, self.head.value(), text),
-            Err(fault) => {
-                if is_answer(&fault) {
-                    drop(fault);
-                    Err(Fault::Untyped(said))
-                } else {
-                    Err(fault)
-                }
-            }
+        let told = self.fetch(said, attribute);
+        if is_done(told)? {
+            value_like(self.alloc, said, self.calls.value(), text)
+        } else {
+            Err(Fault::Untyped(said))
         }
     }
 
