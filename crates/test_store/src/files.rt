@@ -1,7 +1,7 @@
 //! Pages in real files: their bytes, what damages them, the lock, and calls of the file that fail.
 
 use crate::asked::{Ask, Came, asked, get, play};
-use crate::damages::{DAMAGES, SLOT, damaged};
+use crate::damages::{DAMAGES, Damage, SLOT, damaged};
 use crate::faulty::{Faulty, FaultyFiles, Since};
 use crate::report::Report;
 use anyhow::Result;
@@ -52,6 +52,54 @@ fn reads(rt: &HostRuntime, path: &str) -> io::Result<[Came; 3]> {
     Ok(pages)
 }
 
+/// The three pages read so when the file is opened again.
+fn play_reads(
+    report: &mut Report<'_>,
+    case: &'static str,
+    path: &str,
+    pages: [Came; 3],
+) -> io::Result<()> {
+    let found = reads(report.rt(), path)?;
+    report.compare(case, found, pages);
+    Ok(())
+}
+
+/// What is looked at in the bytes of a file.
+#[derive(Clone, Copy, Debug)]
+enum Look {
+    /// A file of three pages has its length.
+    Length,
+    /// Its first page is of zeros.
+    Zeros,
+    SealOfZeros,
+    /// Its third page is of nines.
+    Nines,
+    /// Page 258 stands at its place.
+    Page258,
+    SealOfPage258,
+}
+
+/// Whether that is in the bytes as it is to be.
+fn is_there(bytes: &[u8], look: Look) -> bool {
+    match look {
+        Look::Length => bytes.len() == 1632,
+        Look::Zeros => stands_at(bytes, 0, &[0; 512]),
+        Look::SealOfZeros => stands_at(bytes, 512, &SEAL_OF_ZEROS),
+        Look::Nines => stands_at(bytes, 1088, &[9; 512]),
+        Look::Page258 => stands_at(bytes, PLACE, &counting()),
+        Look::SealOfPage258 => stands_at(bytes, PLACE + 512, &SEAL_OF_PAGE_258),
+    }
+}
+
+/// Looks at the bytes of a file.
+fn play_looks(report: &mut Report<'_>, path: &str, looks: &[Look]) -> io::Result<()> {
+    let bytes = fs::read(report.rt(), path)?;
+    for look in looks {
+        report.compare(*look, is_there(&bytes, *look), true);
+    }
+    Ok(())
+}
+
 /// The calls of a new file of three pages.
 const CALLS: [(Ask, Came); 8] = [
     (Ask::Count, Came::Number(3)),
@@ -72,17 +120,15 @@ fn play_new_file(report: &mut Report<'_>, path: &str) -> io::Result<()> {
     Ok(())
 }
 
+/// What is looked at in the file that the calls leave.
+static LOOKS_BEHIND_CALLS: [Look; 4] = [Look::Length, Look::Zeros, Look::SealOfZeros, Look::Nines];
+
 /// Written, closed, and opened again: the bytes are those of zeros and nines, with their seals.
-fn play_again(report: &mut Report<'_>, path: &str) -> Result<()> {
+fn play_again(report: &mut Report<'_>, path: &str) -> io::Result<()> {
     play_new_file(report, path)?;
-    let bytes = fs::read(report.rt(), path)?;
-    report.compare("its length", bytes.len(), 1632);
-    report.compare("its zeros", stands_at(&bytes, 0, &[0; 512]), true);
-    report.compare("their seal", stands_at(&bytes, 512, &SEAL_OF_ZEROS), true);
-    report.compare("its nines", stands_at(&bytes, 1088, &[9; 512]), true);
+    play_looks(report, path, &LOOKS_BEHIND_CALLS)?;
     let pages = [Came::Full(0), Came::Damaged, Came::Full(9)];
-    report.compare("opened again", reads(report.rt(), path)?, pages);
-    Ok(())
+    play_reads(report, "opened again", path, pages)
 }
 
 /// The bytes k modulo 251.
@@ -105,41 +151,59 @@ fn write_one(rt: &HostRuntime, path: &str, index: u16, content: &[u8; 512]) -> i
     Ok(asked(&mut device, Ask::Sync))
 }
 
-/// What one page of a file of 259 reads as.
-fn read_one(rt: &HostRuntime, path: &str, index: u16) -> io::Result<Option<PageRead>> {
+/// Whether one page of a file of 259 reads so.
+fn is_read(rt: &HostRuntime, path: &str, index: u16, wanted: &PageRead) -> io::Result<bool> {
     let mut device: FilePages = FilePages::open(rt, path, 259)?;
     if device.count() <= index {
-        return Ok(None);
+        return Ok(false);
     }
-    Ok(device.read(index).ok())
+    match device.read(index) {
+        Ok(page) => Ok(page == *wanted),
+        Err(_) => Ok(false),
+    }
 }
 
 /// Where page 258 stands.
 const PLACE: usize = 258 * SLOT;
 
-/// Writes the bytes with everything after this place one slot earlier.
-fn move_up(rt: &HostRuntime, path: &str, bytes: &[u8], place: usize) -> Result<()> {
-    let mut moved = vec![in rt.alloc(); 0u8; place.saturating_sub(SLOT)]?;
+/// The bytes with everything after this place one slot earlier.
+fn moved(alloc: Global, bytes: &[u8], place: usize) -> Result<Vec<u8>, AllocError> {
+    let mut moved = vec![in alloc; 0u8; place.saturating_sub(SLOT)]?;
     moved.extend_from_slice(bytes.get(place..).unwrap_or(&[]))?;
-    Ok(fs::write(rt, path, &moved)?)
+    Ok(moved)
+}
+
+/// Writes the file of page 258 with that page one slot earlier.
+fn move_up(rt: &HostRuntime, path: &str) -> io::Result<()> {
+    let bytes = fs::read(rt, path)?;
+    let moved = moved(rt.alloc(), &bytes, PLACE);
+    drop(bytes);
+    fs::write(rt, path, &moved?)
+}
+
+/// What is looked at in the file of page 258.
+static LOOKS_AT_258: [Look; 2] = [Look::Page258, Look::SealOfPage258];
+
+/// Makes a file of page 258 alone.
+fn play_258(report: &mut Report<'_>, path: &str) -> io::Result<()> {
+    let synced = write_one(report.rt(), path, 258, &counting())?;
+    report.compare("page 258", synced, Came::Done);
+    play_looks(report, path, &LOOKS_AT_258)
+}
+
+/// A page of a file of 259 reads so.
+fn play_one(report: &mut Report<'_>, path: &str, index: u16, wanted: &PageRead) -> io::Result<()> {
+    let is_read = is_read(report.rt(), path, index, wanted)?;
+    report.compare(("page 258 as page", index), is_read, true);
+    Ok(())
 }
 
 /// A page whose number has two bytes, with its seal; at another place it is damaged.
-fn play_seal(report: &mut Report<'_>, path: &str) -> Result<()> {
-    let rt = report.rt();
-    let content = counting();
-    let synced = write_one(rt, path, 258, &content)?;
-    report.compare("page 258", synced, Came::Done);
-    let bytes = fs::read(rt, path)?;
-    report.compare("its place", stands_at(&bytes, PLACE, &content), true);
-    let is_sealed = stands_at(&bytes, PLACE + 512, &SEAL_OF_PAGE_258);
-    report.compare("its seal", is_sealed, true);
-    let is_read = read_one(rt, path, 258)? == Some(PageRead::Content(content));
-    report.compare("page 258 opened again", is_read, true);
-    move_up(rt, path, &bytes, PLACE)?;
-    let is_damaged = read_one(rt, path, 257)? == Some(PageRead::Damaged);
-    report.compare("page 258 as page 257", is_damaged, true);
-    Ok(())
+fn play_seal(report: &mut Report<'_>, path: &str) -> io::Result<()> {
+    play_258(report, path)?;
+    play_one(report, path, 258, &PageRead::Content(counting()))?;
+    move_up(report.rt(), path)?;
+    play_one(report, path, 257, &PageRead::Damaged)
 }
 
 /// Three pages of 1, 2 and 3.
@@ -166,21 +230,39 @@ fn three(report: &mut Report<'_>, path: &str) -> io::Result<Vec<u8>> {
     Ok(bytes)
 }
 
-/// The damages, and a file made anew in place of the last of them.
-fn play_damages(report: &mut Report<'_>, path: &str) -> Result<()> {
-    let whole = three(report, path)?;
+/// Writes the bytes of a file with a damage.
+fn damage_file(rt: &HostRuntime, path: &str, whole: &[u8], damage: Damage) -> io::Result<()> {
+    let bytes = damaged(rt.alloc(), whole, damage)?;
+    fs::write(rt, path, &bytes)
+}
+
+/// Each damage to the bytes of three pages.
+fn play_each_damage(report: &mut Report<'_>, path: &str, whole: &[u8]) -> io::Result<()> {
     for (damage, pages) in DAMAGES {
-        let bytes = damaged(report.alloc(), &whole, damage)?;
-        fs::write(report.rt(), path, &bytes)?;
-        report.compare(damage, reads(report.rt(), path)?, pages);
+        damage_file(report.rt(), path, whole, damage)?;
+        let found = reads(report.rt(), path)?;
+        report.compare(damage, found, pages);
     }
+    Ok(())
+}
+
+/// The damages, and a file made anew in place of the last of them.
+fn play_damages(report: &mut Report<'_>, path: &str) -> io::Result<()> {
+    let whole = three(report, path)?;
+    play_each_damage(report, path, &whole)?;
     play_anew(report, path)
 }
 
+/// How many pages there are in a new file of two.
+fn count_anew(rt: &HostRuntime, path: &str) -> io::Result<u16> {
+    let device: FilePages = FilePages::create(rt, path, 2)?;
+    Ok(device.count())
+}
+
 /// Makes two pages, in place of a file that may be there: how many there are, and the length of the file.
-fn play_anew(report: &mut Report<'_>, path: &str) -> Result<()> {
-    let device: FilePages = FilePages::create(report.rt(), path, 2)?;
-    report.compare("pages made anew", device.count(), 2);
+fn play_anew(report: &mut Report<'_>, path: &str) -> io::Result<()> {
+    let count = count_anew(report.rt(), path)?;
+    report.compare("pages made anew", count, 2);
     let length = fs::read(report.rt(), path)?.len();
     report.compare("a file made anew", length, 1088);
     Ok(())
@@ -202,26 +284,40 @@ fn is_in_use(opened: io::Result<FilePages>) -> bool {
     }
 }
 
+/// Whether a file still has these bytes.
+fn is_unchanged(rt: &HostRuntime, path: &str, whole: &[u8]) -> bool {
+    match fs::read(rt, path) {
+        Ok(bytes) => bytes.as_slice() == whole,
+        Err(_) => false,
+    }
+}
+
+/// Whether a file that is open is not opened once more, is not made anew, and is unchanged then.
+fn kept(rt: &HostRuntime, path: &str, whole: &[u8]) -> io::Result<[bool; 3]> {
+    let device: FilePages = FilePages::open(rt, path, 3)?;
+    let kept = [
+        is_in_use(FilePages::open(rt, path, 3)),
+        is_in_use(FilePages::create(rt, path, 3)),
+        is_unchanged(rt, path, whole),
+    ];
+    drop(device);
+    Ok(kept)
+}
+
 /// While a file is open it can neither be opened nor made anew, and its bytes stay as they are.
-fn play_held(report: &mut Report<'_>, path: &str) -> Result<()> {
-    let rt = report.rt();
+fn play_held(report: &mut Report<'_>, path: &str) -> io::Result<()> {
     let whole = three(report, path)?;
-    let _device: FilePages = FilePages::open(rt, path, 3)?;
-    let is_refused = is_in_use(FilePages::open(rt, path, 3));
-    report.compare("opened in use", is_refused, true);
-    let is_refused = is_in_use(FilePages::create(rt, path, 3));
-    report.compare("made anew in use", is_refused, true);
-    let bytes = fs::read(rt, path)?;
-    report.compare("in use", bytes.as_slice() == whole.as_slice(), true);
+    for is_kept in &kept(report.rt(), path, &whole)? {
+        report.compare("in use", *is_kept, true);
+    }
     Ok(())
 }
 
 /// Closed, it can be opened again.
-fn play_use(report: &mut Report<'_>, path: &str) -> Result<()> {
+fn play_use(report: &mut Report<'_>, path: &str) -> io::Result<()> {
     play_held(report, path)?;
     let pages = [Came::Full(1), Came::Full(2), Came::Full(3)];
-    report.compare("closed", reads(report.rt(), path)?, pages);
-    Ok(())
+    play_reads(report, "closed", path, pages)
 }
 
 /// The calls on pages in a file with failing calls, and their expected outcomes.
@@ -312,33 +408,90 @@ fn with_faults(
     FilePages::open(&files, path, 3)
 }
 
-/// What the first two pages of a file in use read as: read from a copy, which no program has open.
-fn reads_of_copy(rt: &HostRuntime, path: &str, copy: &str) -> Result<[Came; 2]> {
+/// The paths of a file and of a copy of it, and the bytes that the file began with.
+#[derive(Clone, Copy)]
+struct Begun<'a> {
+    path: &'a str,
+    copy: &'a str,
+    bytes: &'a [u8],
+}
+
+/// Copies a file.
+fn copy_file(rt: &HostRuntime, path: &str, copy: &str) -> io::Result<()> {
     let bytes = fs::read(rt, path)?;
-    fs::write(rt, copy, &bytes)?;
+    fs::write(rt, copy, &bytes)
+}
+
+/// What the first two pages of a file in use read as: read from a copy, which no program has open.
+fn reads_of_copy(rt: &HostRuntime, path: &str, copy: &str) -> io::Result<[Came; 2]> {
+    copy_file(rt, path, copy)?;
     let [first, second, _] = reads(rt, copy)?;
     fs::remove_file(rt, copy)?;
     Ok([first, second])
 }
 
-/// A scenario: three pages, and then its turns.
-fn play_turns(report: &mut Report<'_>, path: &str, scenario: &Scenario) -> Result<()> {
-    let rt = report.rt();
-    let copy = path_of(rt, "copy")?;
-    let synced = three(report, path)?;
-    let mut device = with_faults(rt, path, scenario)?;
+/// Takes a turn.
+fn play_turn<P: Pages>(
+    report: &mut Report<'_>,
+    begun: Begun<'_>,
+    device: &mut P,
+    case: (&'static str, u32),
+    turn: Turn,
+) -> io::Result<()> {
+    match turn {
+        Turn::Asks(ask, came) => report.compare(case, asked(device, ask), came),
+        Turn::Drops => return fs::write(report.rt(), begun.path, begun.bytes),
+        Turn::Holds(first, second) => {
+            let pages = reads_of_copy(report.rt(), begun.path, begun.copy)?;
+            report.compare(case, pages, [first, second])
+        }
+    }
+    Ok(())
+}
+
+/// Takes the turns of a scenario.
+fn play_turns<P: Pages>(
+    report: &mut Report<'_>,
+    begun: Begun<'_>,
+    device: &mut P,
+    scenario: &Scenario,
+) -> io::Result<()> {
     let mut place = 0u32;
     for turn in scenario.turns {
-        let case = (scenario.name, place);
-        match *turn {
-            Turn::Asks(ask, came) => report.compare(case, asked(&mut device, ask), came),
-            Turn::Drops => fs::write(rt, path, &synced)?,
-            Turn::Holds(first, second) => {
-                let pages = reads_of_copy(rt, path, copy.as_str())?;
-                report.compare(case, pages, [first, second])
-            }
-        }
+        play_turn(report, begun, device, (scenario.name, place), *turn)?;
         place = place.saturating_add(1);
+    }
+    Ok(())
+}
+
+/// The turns of a scenario, on the file of three pages.
+fn play_begun(report: &mut Report<'_>, begun: Begun<'_>, scenario: &Scenario) -> io::Result<()> {
+    let mut device = with_faults(report.rt(), begun.path, scenario)?;
+    let played = play_turns(report, begun, &mut device, scenario);
+    drop(device);
+    played
+}
+
+/// A scenario: three pages, and then its turns.
+fn play_scenario(
+    report: &mut Report<'_>,
+    path: &str,
+    copy: &str,
+    scenario: &Scenario,
+) -> io::Result<()> {
+    let bytes = three(report, path)?;
+    let begun = Begun {
+        path,
+        copy,
+        bytes: &bytes,
+    };
+    play_begun(report, begun, scenario)
+}
+
+/// The scenarios, each on a new file.
+fn play_scenarios(report: &mut Report<'_>, path: &str, copy: &str) -> io::Result<()> {
+    for scenario in &SCENARIOS {
+        play_scenario(report, path, copy, scenario)?;
     }
     Ok(())
 }
@@ -358,52 +511,66 @@ fn is_not_opened(rt: &HostRuntime, path: &str, [reads, writes, syncs]: [u32; 3])
     is_refused
 }
 
+/// The failing reads, writes and syncs, and whether the file is not opened.
+static OPENINGS: [([u32; 3], bool); 4] = [
+    ([1, 0, 0], true),
+    ([0, 1, 0], true),
+    ([0, 0, 1], true),
+    ([0, 0, 0], false),
+];
+
 /// Opening reads each slot, writes it again unchanged, and syncs: if one of these calls fails the file is not opened, and it is as
 /// it was, also after a write that was half done. If none fails its bytes are the same too.
-fn play_opening(report: &mut Report<'_>, path: &str) -> Result<()> {
-    let rt = report.rt();
+fn play_opening(report: &mut Report<'_>, path: &str) -> io::Result<()> {
     let whole = three(report, path)?;
-    for faults in [[1, 0, 0], [0, 1, 0], [0, 0, 1]] {
-        report.compare(faults, is_not_opened(rt, path, faults), true);
-        let bytes = fs::read(rt, path)?;
-        report.compare("not opened", bytes.as_slice() == whole.as_slice(), true);
-    }
-    report.compare("no fault", is_not_opened(rt, path, [0, 0, 0]), false);
-    let bytes = fs::read(rt, path)?;
-    report.compare("opened", bytes.as_slice() == whole.as_slice(), true);
-    Ok(())
-}
-
-/// The scenarios, each on a new file.
-fn play_scenarios(report: &mut Report<'_>, path: &str) -> Result<()> {
-    for scenario in &SCENARIOS {
-        play_turns(report, path, scenario)?;
+    for (faults, is_refused) in &OPENINGS {
+        let is_not_opened = is_not_opened(report.rt(), path, *faults);
+        report.compare(*faults, is_not_opened, *is_refused);
+        let is_unchanged = is_unchanged(report.rt(), path, &whole);
+        report.compare((*faults, "unchanged"), is_unchanged, true);
     }
     Ok(())
 }
 
-/// Pages in files: one of this run's own in the folder for temporary files, and one with a plain name, which is in the folder where
-/// the program runs. Both are removed.
-pub fn play_files(report: &mut Report<'_>) -> Result<()> {
+/// Pages in the file of a path.
+fn play_file(report: &mut Report<'_>, path: &str, copy: &str) -> io::Result<()> {
+    play_again(report, path)?;
+    play_seal(report, path)?;
+    play_damages(report, path)?;
+    play_use(report, path)?;
+    play_scenarios(report, path, copy)?;
+    play_opening(report, path)?;
+    fs::remove_file(report.rt(), path)
+}
+
+/// Pages in a file of this run's own in the folder for temporary files.
+fn play_temporary(report: &mut Report<'_>) -> Result<()> {
     let path = path_of(report.rt(), "pages")?;
-    report.begin("files");
-    play_again(report, path.as_str())?;
-    play_seal(report, path.as_str())?;
-    play_damages(report, path.as_str())?;
-    play_use(report, path.as_str())?;
-    play_scenarios(report, path.as_str())?;
-    play_opening(report, path.as_str())?;
-    fs::remove_file(report.rt(), path.as_str())?;
+    let copy = path_of(report.rt(), "copy")?;
+    play_file(report, path.as_str(), copy.as_str())?;
     play_missing(report, path.as_str());
+    Ok(())
+}
+
+/// Pages in files: one in the folder for temporary files, and one with a plain name, which is in the folder where the program runs.
+/// Both are removed.
+pub fn play_files(report: &mut Report<'_>) -> Result<()> {
+    report.begin("files");
+    play_temporary(report)?;
     play_plain(report)?;
     report.end();
     Ok(())
+}
+
+/// Makes a file, and removes it.
+fn play_removed(report: &mut Report<'_>, path: &str) -> io::Result<()> {
+    play_anew(report, path)?;
+    fs::remove_file(report.rt(), path)
 }
 
 /// A file of a plain name, made and removed.
 fn play_plain(report: &mut Report<'_>) -> Result<()> {
     let id = process::id(report.rt().process());
     let name = format!(in report.alloc(); "test_store-{id}-plain")?;
-    play_anew(report, name.as_str())?;
-    Ok(fs::remove_file(report.rt(), name.as_str())?)
+    Ok(play_removed(report, name.as_str())?)
 }

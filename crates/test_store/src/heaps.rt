@@ -2,7 +2,6 @@
 
 use crate::asked::{Ask, Came, asked, get};
 use crate::report::Report;
-use anyhow::Result;
 use dlms_pages::{MemoryPages, Pages};
 use dlms_store::{OpenFault, PAGES, Store};
 use linked_list_allocator::LocalHeap;
@@ -71,21 +70,31 @@ fn on_heap(report: &Report<'_>, size: usize) -> Result<(Option<usize>, usize), A
     Ok((end, heap.used()))
 }
 
-/// On a heap of each size the pages are refused, or a write is refused as a fault and does nothing, or all passes; all memory
-/// is given back, and each of these comes.
-pub fn play_writes(report: &mut Report<'_>) -> Result<()> {
-    report.begin("refused writes");
+/// The writes on a heap of this size come to an end, and all memory is given back. Returns which end.
+fn play_heap(report: &mut Report<'_>, size: usize) -> Result<Option<usize>, AllocError> {
+    let (end, kept) = on_heap(report, size)?;
+    report.compare((size, "an end"), end.is_some(), true);
+    report.compare((size, "kept"), kept, 0);
+    Ok(end)
+}
+
+/// How often each end came, on a heap of each size.
+fn play_heaps(report: &mut Report<'_>) -> Result<[u32; 4], AllocError> {
     let mut counts = [0u32; 4];
     for heap in 0..HEAPS {
-        let size = heap.saturating_mul(STEP);
-        let (end, kept) = on_heap(report, size)?;
-        report.compare((size, "an end"), end.is_some(), true);
-        report.compare((size, "kept"), kept, 0);
+        let end = play_heap(report, heap.saturating_mul(STEP))?;
         if let Some(count) = end.and_then(|end| counts.get_mut(end)) {
             *count = count.saturating_add(1);
         }
     }
-    let [no_pages, none, one, both] = counts;
+    Ok(counts)
+}
+
+/// On a heap of each size the pages are refused, or a write is refused as a fault and does nothing, or all passes; all memory
+/// is given back, and each of these comes.
+pub fn play_writes(report: &mut Report<'_>) -> anyhow::Result<()> {
+    report.begin("refused writes");
+    let [no_pages, none, one, both] = play_heaps(report)?;
     report.compare(("pages refused", no_pages), 8 < no_pages, true);
     let refused = none.saturating_add(one);
     report.compare(("writes refused", refused), 2 < refused, true);
@@ -152,16 +161,27 @@ fn found_on_heap(alloc: Global, kilobytes: usize) -> Result<Option<Found>, Alloc
     found
 }
 
+/// A device opened on a heap of this many KiB comes to this; it comes back, and opens with enough memory.
+fn play_recovery(
+    report: &mut Report<'_>,
+    kilobytes: usize,
+    fault: Option<OpenFault>,
+) -> Result<(), AllocError> {
+    match found_on_heap(report.alloc(), kilobytes)? {
+        Some((found, pending)) => {
+            report.compare((kilobytes, "opened"), found, fault);
+            report.compare((kilobytes, "opened with room"), pending, Some(0));
+        }
+        None => report.compare((kilobytes, "formatted"), false, true),
+    }
+    Ok(())
+}
+
 /// Memory for the rows is requested once, and refused if the heap is too small; the device comes back.
-pub fn play_recoveries(report: &mut Report<'_>) -> Result<()> {
+pub fn play_recoveries(report: &mut Report<'_>) -> anyhow::Result<()> {
     report.begin("refused rows");
     for (kilobytes, fault) in &ROWS {
-        let Some((found, pending)) = found_on_heap(report.alloc(), *kilobytes)? else {
-            report.compare((*kilobytes, "formatted"), false, true);
-            continue;
-        };
-        report.compare((*kilobytes, "opened"), found, *fault);
-        report.compare((*kilobytes, "opened with room"), pending, Some(0));
+        play_recovery(report, *kilobytes, *fault)?;
     }
     report.end();
     Ok(())

@@ -185,24 +185,35 @@ fn fault_behind(calls: u64, image: &Image) -> Option<OpenFault> {
     }
 }
 
-/// The power stops after each call, and after none: the next recovery finds what was there.
-fn play_stops(report: &mut Report<'_>, image: &Image, bytes: &[u8]) -> Result<()> {
+/// The power stops after each call, and after none, and leaves this: the next recovery finds what was there.
+fn play_left(
+    report: &mut Report<'_>,
+    image: &Image,
+    bytes: &[u8],
+    left: Left,
+) -> Result<(), AllocError> {
     let alloc = report.alloc();
-    for left in LEFT {
-        for calls in 0..=image.calls {
-            let mut device = device_of(alloc, image, bytes)?;
-            device.fuse(calls);
-            let case = (image.file, image.torn, left, calls);
-            let (fault, again) = recovered_twice(alloc, device, image, Some(left));
-            report.compare(case, fault, fault_behind(calls, image));
-            report.compare(case, again, (None, true));
-        }
+    for calls in 0..=image.calls {
+        let mut device = device_of(alloc, image, bytes)?;
+        device.fuse(calls);
+        let case = (image.file, image.torn, left, calls);
+        let (fault, again) = recovered_twice(alloc, device, image, Some(left));
+        report.compare(case, fault, fault_behind(calls, image));
+        report.compare(case, again, (None, true));
+    }
+    Ok(())
+}
+
+/// The power stops, and leaves each.
+fn play_stops(report: &mut Report<'_>, image: &Image, bytes: &[u8]) -> Result<(), AllocError> {
+    for left in &LEFT {
+        play_left(report, image, bytes, *left)?;
     }
     Ok(())
 }
 
 /// Each call of the recovery fails alone: that is reported, and the next recovery finds what was there.
-fn play_failures(report: &mut Report<'_>, image: &Image, bytes: &[u8]) -> Result<()> {
+fn play_failures(report: &mut Report<'_>, image: &Image, bytes: &[u8]) -> Result<(), AllocError> {
     let alloc = report.alloc();
     for calls in 0..image.calls {
         let mut device = device_of(alloc, image, bytes)?;
@@ -217,7 +228,7 @@ fn play_failures(report: &mut Report<'_>, image: &Image, bytes: &[u8]) -> Result
 
 /// What was migrated is looked at by the next recovery, and not written again: it makes no more calls than it has to read. Where the
 /// journal's first page is damaged it stays so, and each recovery makes a checkpoint.
-fn play_again(report: &mut Report<'_>, image: &Image, bytes: &[u8]) -> Result<()> {
+fn play_again(report: &mut Report<'_>, image: &Image, bytes: &[u8]) -> Result<(), AllocError> {
     let alloc = report.alloc();
     let device = device_of(alloc, image, bytes)?;
     let [first, (fault, is_same), (last, _)] = recovered_thrice(alloc, device, image);
@@ -230,7 +241,7 @@ fn play_again(report: &mut Report<'_>, image: &Image, bytes: &[u8]) -> Result<()
 }
 
 /// Plays an image of these bytes.
-fn play_bytes(report: &mut Report<'_>, image: &Image, bytes: &[u8]) -> Result<()> {
+fn play_bytes(report: &mut Report<'_>, image: &Image, bytes: &[u8]) -> Result<(), AllocError> {
     report.compare(image.file, bytes.len(), usize::from(PAGES) * SLOT);
     play_stops(report, image, bytes)?;
     play_failures(report, image, bytes)?;
@@ -242,7 +253,7 @@ fn play_image(report: &mut Report<'_>, image: &Image) -> Result<()> {
     let bytes = fs::read(report.rt(), image.file)?;
     let played = play_bytes(report, image, &bytes);
     drop(bytes);
-    played
+    Ok(played?)
 }
 
 /// The images, one after another.

@@ -5,7 +5,6 @@ use crate::asked::{Ask, Came, asked, get};
 use crate::report::Report;
 use crate::scripts::FORMATS;
 use crate::stops::{accepted, settled_in};
-use anyhow::Result;
 use dlms_pages::{FilePages, MemorySlots, SLOT_BYTES, SlotTear, SlotTears};
 use dlms_store::{PAGES, Store};
 use std::alloc::{AllocError, Global};
@@ -53,7 +52,7 @@ fn slots_of(
     fault: Fault,
     calls: u64,
     tear: SlotTear,
-) -> std::result::Result<MemorySlots, AllocError> {
+) -> Result<MemorySlots, AllocError> {
     let mut slots = MemorySlots::new(alloc, PAGES)?;
     slots.fail_as(tear);
     let calls = (OPENS + FORMATS).saturating_add(calls);
@@ -78,7 +77,7 @@ fn played(
     fault: Fault,
     calls: u64,
     tear: SlotTear,
-) -> std::result::Result<Option<Failed>, AllocError> {
+) -> Result<Option<Failed>, AllocError> {
     let Some(pages) = opened(alloc, slots_of(alloc, fault, calls, tear)?) else {
         return Ok(None);
     };
@@ -133,7 +132,7 @@ fn stopped_again(alloc: Global, slots: MemorySlots, calls: u64, tear: SlotTear) 
 
 /// The calls of an opening and a recovery after which the power stops again: at its first and last slots, at its sync, and in the
 /// recovery.
-const AGAIN: [u64; 12] = [
+static AGAIN: [u64; 12] = [
     0,
     1,
     2,
@@ -154,7 +153,7 @@ fn found_again(
     calls: u64,
     tear: SlotTear,
     again: u64,
-) -> std::result::Result<Option<Option<u32>>, AllocError> {
+) -> Result<Option<Option<u32>>, AllocError> {
     match played(alloc, Fault::Stop, calls, tear)? {
         Some(failed) => {
             let left = failed.pages.into_slots().cut(SlotTears::All(tear));
@@ -171,11 +170,11 @@ fn play_second_stops(
     calls: u64,
     tear: SlotTear,
     found: Option<u32>,
-) -> Result<()> {
+) -> Result<(), AllocError> {
     let alloc = report.alloc();
-    for again in AGAIN {
-        if let Some(also) = found_again(alloc, calls, tear, again)? {
-            report.compare((calls, tear, again), also, found);
+    for again in &AGAIN {
+        if let Some(also) = found_again(alloc, calls, tear, *again)? {
+            report.compare((calls, tear, *again), also, found);
         }
     }
     Ok(())
@@ -187,7 +186,7 @@ fn found_after(
     fault: Fault,
     calls: u64,
     tear: SlotTear,
-) -> std::result::Result<Option<(Option<u32>, bool)>, AllocError> {
+) -> Result<Option<(Option<u32>, bool)>, AllocError> {
     let Some(failed) = played(alloc, fault, calls, tear)? else {
         return Ok(None);
     };
@@ -202,7 +201,7 @@ fn found_after(
 
 /// A call that fails, or a stop after a call, at each place of the scenario: every settled pulse is found, and none that was not
 /// accepted.
-fn play_faults(report: &mut Report<'_>, fault: Fault, tear: SlotTear) -> Result<()> {
+fn play_faults(report: &mut Report<'_>, fault: Fault, tear: SlotTear) -> Result<(), AllocError> {
     let alloc = report.alloc();
     for calls in 0..CALLS {
         let Some((found, is_between)) = found_after(alloc, fault, calls, tear)? else {
@@ -218,7 +217,7 @@ fn play_faults(report: &mut Report<'_>, fault: Fault, tear: SlotTear) -> Result<
 }
 
 /// Three pages of which the middle one is written anew, and torn so by a stop.
-fn torn(alloc: Global, tear: SlotTear) -> Result<Option<[Came; 3]>> {
+fn torn(alloc: Global, tear: SlotTear) -> Result<Option<[Came; 3]>, AllocError> {
     let Ok(mut pages) = FilePages::over(alloc, MemorySlots::new(alloc, 3)?, 3) else {
         return Ok(None);
     };
@@ -243,34 +242,46 @@ fn page_of(octets: usize) -> Came {
     }
 }
 
+/// A slot torn so, of which so many octets arrived.
+fn play_tear(report: &mut Report<'_>, tear: SlotTear, octets: usize) -> Result<(), AllocError> {
+    let left = torn(report.alloc(), tear)?;
+    let pages = [Came::Full(0x11), page_of(octets), Came::Full(0x11)];
+    report.compare(tear, left, Some(pages));
+    Ok(())
+}
+
 /// A slot torn at each octet, from either end; its neighbours stay.
-fn play_torn(report: &mut Report<'_>) -> Result<()> {
-    let alloc = report.alloc();
+fn play_torn(report: &mut Report<'_>) -> Result<(), AllocError> {
     for octets in 0..=SLOT_BYTES {
         let place = octets as u16;
-        let pages = Some([Came::Full(0x11), page_of(octets), Came::Full(0x11)]);
-        report.compare(place, torn(alloc, SlotTear::Front(place))?, pages);
-        let pages = Some([
-            Came::Full(0x11),
-            page_of(SLOT_BYTES - octets),
-            Came::Full(0x11),
-        ]);
-        report.compare(place, torn(alloc, SlotTear::Back(place))?, pages);
+        play_tear(report, SlotTear::Front(place), octets)?;
+        play_tear(report, SlotTear::Back(place), SLOT_BYTES - octets)?;
     }
     Ok(())
 }
 
-/// Slots that are torn, calls of a file that fail, and stops of its machine.
-pub fn play_slots(report: &mut Report<'_>) -> Result<()> {
-    report.begin("torn slots");
-    play_torn(report)?;
-    report.end();
+/// A fault at each place, with each tear.
+fn play_tears(report: &mut Report<'_>, fault: Fault) -> Result<(), AllocError> {
+    for tear in &TEARS {
+        play_faults(report, fault, *tear)?;
+    }
+    Ok(())
+}
+
+/// Calls of a file that fail, and stops of its machine.
+fn play_file(report: &mut Report<'_>) -> Result<(), AllocError> {
     report.begin("faults and stops of a file");
     for fault in &FAULTS {
-        for tear in &TEARS {
-            play_faults(report, *fault, *tear)?;
-        }
+        play_tears(report, *fault)?;
     }
     report.end();
     Ok(())
+}
+
+/// Slots that are torn, calls of a file that fail, and stops of its machine.
+pub fn play_slots(report: &mut Report<'_>) -> anyhow::Result<()> {
+    report.begin("torn slots");
+    play_torn(report)?;
+    report.end();
+    Ok(play_file(report)?)
 }

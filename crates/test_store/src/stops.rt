@@ -2,7 +2,6 @@
 
 use crate::report::Report;
 use crate::scripts::FORMATS;
-use anyhow::Result;
 use dlms_pages::{MemoryPages, PageChoice, Pages, Pick};
 use dlms_state::Event;
 use dlms_store::{PAGES, Store};
@@ -58,7 +57,7 @@ impl Left {
 }
 
 /// Each of them.
-pub const LEFT: [Left; 4] = [Left::Old, Left::New, Left::Damaged, Left::Each];
+pub static LEFT: [Left; 4] = [Left::Old, Left::New, Left::Damaged, Left::Each];
 
 /// How many pulses the store has, each an event that it accepted.
 pub fn accepted<P: Pages>(store: &Store<P>) -> u32 {
@@ -207,34 +206,61 @@ fn found_again(
     }
 }
 
-/// Stops the power again, wherever it can stop in the recovery: as much is found each time.
-fn play_second_stops(report: &mut Report<'_>, calls: u64, left: Left) -> Result<()> {
-    let (found, _) = found_after(report.alloc(), calls, left)?;
-    for second in LEFT {
-        for again in 0..RECOVERY {
-            let also = found_again(report.alloc(), calls, left, again, second)?;
-            report.compare((left, calls, second, again), also, found);
-        }
+/// Stops the power again, leaving this, wherever it can stop in the recovery: as much is found each time.
+fn play_second_stops(
+    report: &mut Report<'_>,
+    (left, calls): (Left, u64),
+    second: Left,
+    found: Option<u32>,
+) -> Result<(), AllocError> {
+    for again in 0..RECOVERY {
+        let also = found_again(report.alloc(), calls, left, again, second)?;
+        report.compare((left, calls, second, again), also, found);
     }
     Ok(())
 }
 
-/// Wherever the power stops, and again wherever it stops in the recovery: what is found has every pulse that was settled,
-/// none that was not accepted, and is the same each time.
-pub fn play_stops(report: &mut Report<'_>) -> Result<()> {
+/// Stops the power again behind a stop, leaving each.
+fn play_behind(report: &mut Report<'_>, calls: u64, left: Left) -> Result<(), AllocError> {
+    let (found, _) = found_after(report.alloc(), calls, left)?;
+    for second in &LEFT {
+        play_second_stops(report, (left, calls), *second, found)?;
+    }
+    Ok(())
+}
+
+/// Stops the power wherever it can stop, leaving this.
+fn play_left(report: &mut Report<'_>, left: Left) -> Result<(), AllocError> {
+    for calls in 0..CALLS {
+        let (found, is_between) = found_after(report.alloc(), calls, left)?;
+        report.compare((left, calls, found), is_between, true);
+    }
+    Ok(())
+}
+
+/// Stops the power again behind each such stop.
+fn play_left_again(report: &mut Report<'_>, left: Left) -> Result<(), AllocError> {
+    for calls in 0..CALLS {
+        play_behind(report, calls, left)?;
+    }
+    Ok(())
+}
+
+/// Wherever the power stops: what is found has every pulse that was settled, and none that was not accepted.
+pub fn play_stops(report: &mut Report<'_>) -> anyhow::Result<()> {
     report.begin("stops");
-    for left in LEFT {
-        for calls in 0..CALLS {
-            let (found, is_between) = found_after(report.alloc(), calls, left)?;
-            report.compare((left, calls, found), is_between, true);
-        }
+    for left in &LEFT {
+        play_left(report, *left)?;
     }
     report.end();
+    Ok(())
+}
+
+/// Wherever it stops again in the recovery: the same is found.
+pub fn play_stops_again(report: &mut Report<'_>) -> anyhow::Result<()> {
     report.begin("second stops");
-    for left in LEFT {
-        for calls in 0..CALLS {
-            play_second_stops(report, calls, left)?;
-        }
+    for left in &LEFT {
+        play_left_again(report, *left)?;
     }
     report.end();
     Ok(())

@@ -1,12 +1,14 @@
 //! Stores: the scripts, and the texts of the faults.
 
+use crate::bytes::Bytes;
 use crate::columns::COLUMNS;
 use crate::report::Report;
-use crate::scripts::{OnDevice, OnStore, SCRIPTS, Script, Step};
+use crate::scripts::{Look, OnDevice, OnStore, SCRIPTS, Step};
+use crate::stops::Left;
 use crate::versions::VERSIONS;
 use anyhow::Result;
 use arrayvec::ArrayVec;
-use dlms_pages::{MemoryPages, PageRead, Pages, Pick};
+use dlms_pages::{MemoryPages, PageRead, Pages};
 use dlms_state::{Event, Refused};
 use dlms_store::{AddFault, OpenFault, Store};
 use std::alloc::Global;
@@ -63,8 +65,13 @@ fn numbers(store: &MemoryStore) -> (u128, u128) {
     (store.state().first_number(), store.state().next_number())
 }
 
-/// Where a script stands: its name, and the number of the step.
-type Place = (&'static str, u32);
+/// The first so many of some values.
+fn first<T>(count: usize, values: &[T]) -> &[T] {
+    values.get(..count).unwrap_or(values)
+}
+
+/// Where the scripts of a group stand: the number of the script, and that of the step.
+type Place = (u32, u32);
 
 /// Takes a step on a store.
 fn play_on_store(report: &mut Report<'_>, place: Place, store: &mut MemoryStore, step: OnStore) {
@@ -77,16 +84,25 @@ fn play_on_store(report: &mut Report<'_>, place: Place, store: &mut MemoryStore,
         OnStore::Empties => report.compare(place, store.add(Event::ResetProfile), Ok(())),
         OnStore::Commits(answer) => report.compare(place, store.commit(), answer),
         OnStore::Checkpoints(answer) => report.compare(place, store.checkpoint(), answer),
-        OnStore::Pending(bytes) => report.compare(place, store.pending(), bytes),
-        OnStore::Registers(registers) => {
-            report.compare(place, store.state().registers(), registers)
+        OnStore::SetsColumns(count, ids, answer) => {
+            report.compare(place, sets_columns(store, first(count, &ids)), answer)
         }
-        OnStore::Numbers(first, next) => report.compare(place, numbers(store), (first, next)),
-        OnStore::SetsColumns(ids, answer) => {
-            report.compare(place, sets_columns(store, ids), answer)
+    }
+}
+
+/// Looks at a store.
+fn play_look(report: &mut Report<'_>, place: Place, store: &MemoryStore, look: Look) {
+    match look {
+        Look::Pending(bytes) => report.compare(place, store.pending(), bytes),
+        Look::Registers(registers) => report.compare(place, store.state().registers(), registers),
+        Look::Numbers(oldest, next) => report.compare(place, numbers(store), (oldest, next)),
+        Look::Columns(count, ids) => {
+            let is_same = store.state().columns() == first(count, &ids);
+            report.compare(place, is_same, true)
         }
-        OnStore::Columns(ids) => report.compare(place, store.state().columns() == ids, true),
-        OnStore::Row(index, values) => report.compare(place, has_row(store, index, values), true),
+        Look::Row(index, count, values) => {
+            report.compare(place, has_row(store, index, first(count, &values)), true)
+        }
     }
 }
 
@@ -175,13 +191,16 @@ const JOURNAL: u16 = 6;
 /// Writes a page of any version, and says whether that passed; nothing else is done.
 fn becomes(device: &mut MemoryPages, step: OnDevice) -> bool {
     let (index, kind, version, generation, payload) = match step {
-        OnDevice::Gate(index, version, generation) => (index, 1, version, generation, &[][..]),
+        OnDevice::Gate(index, version, generation) => {
+            (index, 1, version, generation, Bytes::Nothing)
+        }
         OnDevice::Body(index, generation, front) => (index, 3, 1, generation, front),
         OnDevice::Journal(version, generation, records) => {
             (JOURNAL, 4, version, generation, records)
         }
         _ => return false,
     };
+    let payload = payload.of();
     let length = match u16::try_from(payload.len()) {
         Ok(length) if kind != 3 => length,
         _ => 302,
@@ -195,27 +214,16 @@ fn becomes(device: &mut MemoryPages, step: OnDevice) -> bool {
     writes(device, index, head, payload)
 }
 
-/// Takes a step on a device.
-fn play_on_device(report: &mut Report<'_>, place: Place, device: &mut MemoryPages, step: OnDevice) {
+/// Whether a step on a device comes out as it is to.
+fn is_taken(device: &mut MemoryPages, step: OnDevice) -> bool {
     match step {
-        OnDevice::Fails(calls) => {
-            device.fuse(calls);
-        }
-        OnDevice::Clears(index) => report.compare(place, puts(device, index, &[]), true),
-        OnDevice::Puts(index, front) => report.compare(place, puts(device, index, front), true),
-        OnDevice::Begins(index, front) => {
-            report.compare(place, begins(device, index, front), true)
-        }
-        OnDevice::Changes(index, at, byte) => {
-            report.compare(place, changes(device, index, at, byte), true)
-        }
-        OnDevice::Ends(index, from, part) => {
-            report.compare(place, ends(device, index, from, part), true)
-        }
-        OnDevice::Holds(index, front) => report.compare(place, ends(device, index, 0, front), true),
-        OnDevice::Gate(..) | OnDevice::Body(..) | OnDevice::Journal(..) => {
-            report.compare(place, becomes(device, step), true)
-        }
+        OnDevice::Clears(index) => puts(device, index, &[]),
+        OnDevice::Puts(index, front) => puts(device, index, front.of()),
+        OnDevice::Begins(index, front) => begins(device, index, front.of()),
+        OnDevice::Changes(index, at, byte) => changes(device, index, at, byte),
+        OnDevice::Ends(index, from, part) => ends(device, index, from, part.of()),
+        OnDevice::Holds(index, front) => ends(device, index, 0, front.of()),
+        OnDevice::Gate(..) | OnDevice::Body(..) | OnDevice::Journal(..) => becomes(device, step),
     }
 }
 
@@ -307,11 +315,11 @@ fn play_open(
 }
 
 /// Stops the power of a device that no store has.
-fn play_stop(report: &mut Report<'_>, place: Place, subject: &mut Subject, pick: Pick<'static>) {
+fn play_stop(report: &mut Report<'_>, place: Place, subject: &mut Subject, left: Left) {
     let Some(device) = device_in(subject) else {
         return play_nothing(report, place);
     };
-    put(subject, Subject::Device(device.cut(pick)));
+    put(subject, Subject::Device(device.cut(left.pick())));
 }
 
 /// Closes a store.
@@ -322,22 +330,43 @@ fn play_close(report: &mut Report<'_>, place: Place, subject: &mut Subject) {
     put(subject, Subject::Device(store.close()));
 }
 
+/// Begins a script with a new device.
+fn play_device(report: &mut Report<'_>, subject: &mut Subject, pages: u16) -> io::Result<()> {
+    let device = MemoryPages::new(report.alloc(), pages)?;
+    put(subject, Subject::Device(device));
+    Ok(())
+}
+
 /// Takes a step on a store.
 fn play_at_store(report: &mut Report<'_>, place: Place, subject: &mut Subject, step: OnStore) {
-    if let Subject::Store(store) = subject {
-        return play_on_store(report, place, store, step);
+    match subject {
+        Subject::Store(store) => play_on_store(report, place, store, step),
+        Subject::Device(_) | Subject::Nothing => play_nothing(report, place),
     }
-    put(subject, Subject::Nothing);
-    play_nothing(report, place)
+}
+
+/// Looks at a store.
+fn play_look_at(report: &mut Report<'_>, place: Place, subject: &Subject, look: Look) {
+    match subject {
+        Subject::Store(store) => play_look(report, place, store, look),
+        Subject::Device(_) | Subject::Nothing => play_nothing(report, place),
+    }
 }
 
 /// Takes a step on a device that no store has.
 fn play_at_device(report: &mut Report<'_>, place: Place, subject: &mut Subject, step: OnDevice) {
-    if let Subject::Device(device) = subject {
-        return play_on_device(report, place, device, step);
+    match subject {
+        Subject::Device(device) => report.compare(place, is_taken(device, step), true),
+        Subject::Store(_) | Subject::Nothing => play_nothing(report, place),
     }
-    put(subject, Subject::Nothing);
-    play_nothing(report, place)
+}
+
+/// Has each call of a device that no store has fail after so many.
+fn play_fuse(report: &mut Report<'_>, place: Place, subject: &mut Subject, calls: u64) {
+    match subject {
+        Subject::Device(device) => device.fuse(calls),
+        Subject::Store(_) | Subject::Nothing => play_nothing(report, place),
+    }
 }
 
 /// Takes a step, and leaves what the next one works on.
@@ -348,57 +377,64 @@ fn play_step(
     step: Step,
 ) -> io::Result<()> {
     match step {
-        Step::Device(pages) => {
-            let device = MemoryPages::new(report.alloc(), pages)?;
-            put(subject, Subject::Device(device));
-        }
+        Step::Device(pages) => return play_device(report, subject, pages),
+        Step::Fails(calls) => play_fuse(report, place, subject, calls),
         Step::Formats(fault) => play_format(report, place, subject, fault),
         Step::Opens(fault) => play_open(report, place, subject, fault),
         Step::Closes => play_close(report, place, subject),
-        Step::Stops(pick) => play_stop(report, place, subject, pick),
+        Step::Stops(left) => play_stop(report, place, subject, left),
         Step::Store(step) => play_at_store(report, place, subject, step),
+        Step::Shows(look) => play_look_at(report, place, subject, look),
         Step::At(step) => play_at_device(report, place, subject, step),
     }
     Ok(())
 }
 
-/// Takes the steps of a script, one after another.
-fn play_steps(report: &mut Report<'_>, subject: &mut Subject, script: &Script) -> io::Result<()> {
-    let mut place = 0u32;
-    for step in script.steps {
-        play_step(report, (script.name, place), subject, *step)?;
-        place = place.saturating_add(1);
+/// The place of the next step.
+fn next_place((script, number): Place, step: &Step) -> Place {
+    match step {
+        Step::Device(_) => (script.saturating_add(1), 0),
+        _ => (script, number.saturating_add(1)),
     }
-    Ok(())
 }
 
-/// Plays a script, which begins with nothing.
-fn play_script(report: &mut Report<'_>, script: &Script) -> io::Result<()> {
-    let mut subject = Subject::Nothing;
-    let played = play_steps(report, &mut subject, script);
-    drop(subject);
-    played
+/// Takes the steps of scripts, one after another.
+fn play_steps(report: &mut Report<'_>, subject: &mut Subject, steps: &[Step]) -> io::Result<()> {
+    let mut place = (0u32, 0u32);
+    for step in steps {
+        place = next_place(place, step);
+        play_step(report, place, subject, *step)?;
+    }
+    Ok(())
 }
 
 /// The scripts of a group.
-fn play_group(report: &mut Report<'_>, group: &'static str, scripts: &[Script]) -> io::Result<()> {
+fn play_group(report: &mut Report<'_>, group: &'static str, steps: &[Step]) -> io::Result<()> {
     report.begin(group);
-    for script in scripts {
-        play_script(report, script)?;
-    }
+    let mut subject = Subject::Nothing;
+    let played = play_steps(report, &mut subject, steps);
+    drop(subject);
     report.end();
-    Ok(())
+    played
 }
 
-/// The scripts: of any store, of columns that are set, and of pages of several versions.
-pub fn play_stores(report: &mut Report<'_>) -> Result<()> {
-    play_group(report, "stores", &SCRIPTS)?;
-    play_group(report, "columns", &COLUMNS)?;
+/// The scripts of any store.
+pub fn play_scripts(report: &mut Report<'_>) -> Result<()> {
+    Ok(play_group(report, "stores", &SCRIPTS)?)
+}
+
+/// The scripts of columns that are set.
+pub fn play_columns(report: &mut Report<'_>) -> Result<()> {
+    Ok(play_group(report, "columns", &COLUMNS)?)
+}
+
+/// The scripts of pages of several versions.
+pub fn play_versions(report: &mut Report<'_>) -> Result<()> {
     Ok(play_group(report, "versions", &VERSIONS)?)
 }
 
 /// How a fault at an event is shown.
-const TEXTS: [(AddFault, &str); 7] = [
+static TEXTS: [(AddFault, &str); 7] = [
     (AddFault::Refused(Refused::MomentBack(900)), "refused 1"),
     (AddFault::Refused(Refused::Range), "refused 2"),
     (AddFault::Refused(Refused::Channel), "refused 3"),
@@ -408,14 +444,18 @@ const TEXTS: [(AddFault, &str); 7] = [
     (AddFault::Exhausted, "exhausted"),
 ];
 
+/// Whether a fault is shown so.
+fn is_told(alloc: Global, fault: &AddFault, text: &str) -> Result<bool> {
+    let told = format!(in alloc; "{fault}")?;
+    Ok(told.as_str() == text)
+}
+
 /// Faults are shown by name and number.
 pub fn play_texts(report: &mut Report<'_>) -> Result<()> {
     report.begin("texts of faults");
-    for (fault, text) in TEXTS {
-        let told = format!(in report.alloc(); "{fault}")?;
-        let is_told = told.as_str() == text;
-        drop(told);
-        report.compare(text, is_told, true);
+    for (fault, text) in &TEXTS {
+        let is_told = is_told(report.alloc(), fault, text)?;
+        report.compare(*text, is_told, true);
     }
     report.end();
     Ok(())
